@@ -76,11 +76,11 @@ module _ (ws ord : List ℕ) (b : Path) where
       ap (cuts (suc n) f) e ∙ ap₂ both lower upper
 
 -- the limits look at the keys alone
-boundaries-same : (k : ℕ) (n m : ℕ → ℕ) → ((i : ℕ) → i < k → n i ≡ m i) → boundaries k n ≡ boundaries k m
+pub boundaries-same : (k : ℕ) (n m : ℕ → ℕ) → ((i : ℕ) → i < k → n i ≡ m i) → boundaries k n ≡ boundaries k m
 boundaries-same zero n m w = refl
 boundaries-same (suc k) n m w = omega (arith, w k (omega arith), boundaries-same k n m (λ i h. w i (omega arith)))
 
-cells-same : (k : ℕ) (n m : ℕ → ℕ) → ((i : ℕ) → i < k → n i ≡ m i) → cells k n ≡ cells k m
+pub cells-same : (k : ℕ) (n m : ℕ → ℕ) → ((i : ℕ) → i < k → n i ≡ m i) → cells k n ≡ cells k m
 cells-same zero n m w = refl
 cells-same (suc k) n m w = ap₂ (λ a b. a * b) (w k (omega arith)) (cells-same k n m (λ i h. w i (omega arith)))
 

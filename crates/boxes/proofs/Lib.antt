@@ -21,12 +21,16 @@ pub mod OfBoxes
 pub mod OfRanges
 pub mod OfScales
 pub mod Sides
+pub mod Differing
+pub mod Cases
 pub mod Tallies
 pub mod HalfLeaves
 pub mod LeafCount
 pub mod Shuffles
 pub mod Walks
 pub mod OfSurveys
+pub mod OfRoots
+pub mod OfFigures
 pub mod Insertion
 pub mod Bounds
 pub mod Gathered

@@ -127,7 +127,7 @@ pub directory-alone : (s : Space) (l : ℕ) (b : Path) (ls : List Path) → keep
 directory-alone s l b ls e = directories-shut (widths-of s) (order-of s) b (s .depth - l) ls e
 
 -- the numbers in the second list are those in the first and what P says
-abbrev Grown : List ℕ → List ℕ → (ℕ → Type 0) → Type 0
+abbrev pub Grown : List ℕ → List ℕ → (ℕ → Type 0) → Type 0
 Grown us vs P = (x : ℕ) → (In x vs → In x us ⊎ P x) × (In x us ⊎ P x → In x vs)
 
 grown-more : (us vs ws : List ℕ) (P Q : ℕ → Type 0) → Grown us vs P → Grown vs ws Q → Grown us ws (λ x. P x ⊎ Q x)
@@ -143,7 +143,7 @@ grown-as us vs P Q to back g x = (
 )
 
 -- one number noted, if it is wanted
-noted-one : (w : Bool) (end : ℕ) (old new : List ℕ) (n m : ℕ) → Added w end old n new m → (w ≡ true → n < length old)
+pub noted-one : (w : Bool) (end : ℕ) (old new : List ℕ) (n m : ℕ) → Added w end old n new m → (w ≡ true → n < length old)
     → (m ≡ cond w (n + 1) n) × (length new ≡ length old) × Grown (take n old) (take m new) (λ x. (w ≡ true) × In x (end ∷ []))
 noted-one true end old new n m a h =
     let r = a .0 (h refl) in

@@ -1,3 +1,4 @@
+pub mod Cases
 pub mod Counts
 pub mod Cuts
 pub mod Directories

@@ -1,6 +1,8 @@
-ghost use Rattle.boxes.specs.Figures.{Cases};
+ghost use Rattle.boxes.specs.Cases.{Cases};
 ghost use Rattle.boxes.specs.Laws.{Boxes-stand, Leaves-stand, Order-stands, Changes-stand, Cells-stand, Numbers-stand, Root-cells-stand, Any-order};
 
+mod figures;
+mod greatest;
 mod grid_box;
 mod grid_boxes;
 mod joining;
@@ -10,6 +12,7 @@ mod key_ranges;
 mod keys;
 mod limits;
 mod lower_ends;
+mod measuring;
 mod padding;
 mod parting;
 mod rising;
@@ -19,17 +22,16 @@ mod spaces;
 mod survey;
 mod surveys;
 
+pub use figures::Figures;
+pub use figures::NotMeasured;
+pub use greatest::greatest_key;
 pub use grid_box::GridBox;
 pub use key_range::KeyRange;
 pub use keys::Keys;
-pub use limits::boundaries_of;
-pub use limits::cells_of;
-pub use limits::keeps_limits;
-pub use lower_ends::LowerEnds;
-pub use scales::Scales;
+pub use measuring::measure;
 pub use space::Space;
 
-// The laws of boxes, leaf boxes and directory boxes, and the worked cases, as this function's promise.
+// Computes nothing: its promise is the laws of boxes, leaf boxes and directory boxes, and the worked cases.
 pub fn laws_stand() -> u8
     ensures boxes { λ _. ⌜ Boxes-stand ⌝ }
     ensures leaves { λ _. ⌜ Leaves-stand ⌝ }

@@ -39,8 +39,8 @@ pub(crate) fn survey(
         };
     }
     let cut = part(inner, points);
-    let lower_half = inner.half(false);
-    let upper_half = inner.half(true);
+    let lower_half = inner.half_unchecked(false);
+    let upper_half = inner.half_unchecked(true);
     let lower = survey(&lower_half, &mut points[0..cut], capacity, key, room, noted);
     let upper = survey(&upper_half, &mut points[cut..], capacity, key, room, lower.noted);
     let leaf_boxes = lower.leaf_boxes + upper.leaf_boxes;
@@ -64,7 +64,7 @@ pub(crate) fn survey(
 }
 
 // One lower end more, if it is wanted and there is room for it.
-fn note(room: &mut [u32], noted: usize, wanted: bool, end: u32) -> usize
+pub(crate) fn note(room: &mut [u32], noted: usize, wanted: bool, end: u32) -> usize
     ensures { λ r. ⌜ Added wanted end (now (room .entry)) noted (now (room .exit)) r ⌝ }
 {
     if !wanted || noted >= room.len() {

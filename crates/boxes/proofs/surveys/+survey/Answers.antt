@@ -32,34 +32,34 @@ returns-then-points-capacity t c =
 pub survey-lower-requires : need.survey-lower-requires
 survey-lower-requires t c κs =
     let g = c .args .inner .now in
-    let lo = c .half-lower-half .result in
+    let lo = c .half-unchecked-lower-half .result in
     let qs = c .part-cut .last .points in
     let r = c .part-cut .result in
     let k : g .level < g .space .now .depth = omega (arith, c .if-inner .left, g .deep) in
-    let halves : Halving g lo (c .half-upper-half .result) (c .args .capacity) (c .args .points .now) qs (take (r - 0) qs) (drop r qs) r = record {
+    let halves : Halving g lo (c .half-unchecked-upper-half .result) (c .args .capacity) (c .args .points .now) qs (take (r - 0) qs) (drop r qs) r = record {
       deeper = k;
       more = omega (arith, c .if-points-capacity .left);
       sides = c .part-cut .ensures;
-      lower-half = c .half-lower-half .ensures;
-      upper-half = c .half-upper-half .ensures;
+      lower-half = c .half-unchecked-lower-half .ensures;
+      upper-half = c .half-unchecked-upper-half .ensures;
       lower-points = lower-part qs r;
       upper-points = refl;
     } in (
-      omega (arith, c .measured, half-falls g lo false (c .half-lower-half .ensures) k),
-      (lower-fits halves (c .pre .0), omega (arith, c .pre .1, ap (λ (u : Space). u .keys) (c .half-lower-half .ensures .0))),
+      omega (arith, c .measured, half-falls g lo false (c .half-unchecked-lower-half .ensures) k),
+      (lower-fits halves (c .pre .0), omega (arith, c .pre .1, ap (λ (u : Space). u .keys) (c .half-unchecked-lower-half .ensures .0))),
     )
 
 pub survey-upper-requires : need.survey-upper-requires
 survey-upper-requires t c κs =
     let g = c .args .inner .now in
-    let up = c .half-upper-half .result in
+    let up = c .half-unchecked-upper-half .result in
     let qs = c .part-cut .last .points in
     let r = c .part-cut .result in
     let walked = c .survey-lower .last .points in
     let k : g .level < g .space .now .depth = omega (arith, c .if-inner .left, g .deep) in
-    let halves = halving g (c .half-lower-half .result) (c .half-upper-half .result) (c .args .capacity) (c .args .points .now) qs walked r (c .if-inner .left) (omega (arith, c .if-points-capacity .left)) (c .part-cut .ensures) (c .half-lower-half .ensures) (c .half-upper-half .ensures) (c .survey-lower .kept .points) in (
-      omega (arith, c .measured, half-falls g up true (c .half-upper-half .ensures) k),
-      (upper-fits halves (c .pre .0), omega (arith, c .pre .1, ap (λ (u : Space). u .keys) (c .half-upper-half .ensures .0))),
+    let halves = halving g (c .half-unchecked-lower-half .result) (c .half-unchecked-upper-half .result) (c .args .capacity) (c .args .points .now) qs walked r (c .if-inner .left) (omega (arith, c .if-points-capacity .left)) (c .part-cut .ensures) (c .half-unchecked-lower-half .ensures) (c .half-unchecked-upper-half .ensures) (c .survey-lower .kept .points) in (
+      omega (arith, c .measured, half-falls g up true (c .half-unchecked-upper-half .ensures) k),
+      (upper-fits halves (c .pre .0), omega (arith, c .pre .1, ap (λ (u : Space). u .keys) (c .half-unchecked-upper-half .ensures .0))),
     )
 
 pub add-leaf-boxes : need.add-leaf-boxes
@@ -68,7 +68,7 @@ add-leaf-boxes t c =
     let qs = c .part-cut .last .points in
     let r = c .part-cut .result in
     let walked = c .survey-lower .last .points in
-    let halves = halving g (c .half-lower-half .result) (c .half-upper-half .result) (c .args .capacity) (c .args .points .now) qs walked r (c .if-inner .left) (omega (arith, c .if-points-capacity .left)) (c .part-cut .ensures) (c .half-lower-half .ensures) (c .half-upper-half .ensures) (c .survey-lower .kept .points) in
+    let halves = halving g (c .half-unchecked-lower-half .result) (c .half-unchecked-upper-half .result) (c .args .capacity) (c .args .points .now) qs walked r (c .if-inner .left) (omega (arith, c .if-points-capacity .left)) (c .part-cut .ensures) (c .half-unchecked-lower-half .ensures) (c .half-unchecked-upper-half .ensures) (c .survey-lower .kept .points) in
     let x = c .survey-lower .result in
     let y = c .survey-upper .result in
     let fx = c .survey-lower .ensures .found in
@@ -81,7 +81,7 @@ returns-then-is-some t c =
     let qs = c .part-cut .last .points in
     let r = c .part-cut .result in
     let walked = c .survey-lower .last .points in
-    let halves = halving g (c .half-lower-half .result) (c .half-upper-half .result) (c .args .capacity) (c .args .points .now) qs walked r (c .if-inner .left) (omega (arith, c .if-points-capacity .left)) (c .part-cut .ensures) (c .half-lower-half .ensures) (c .half-upper-half .ensures) (c .survey-lower .kept .points) in
+    let halves = halving g (c .half-unchecked-lower-half .result) (c .half-unchecked-upper-half .result) (c .args .capacity) (c .args .points .now) qs walked r (c .if-inner .left) (omega (arith, c .if-points-capacity .left)) (c .part-cut .ensures) (c .half-unchecked-lower-half .ensures) (c .half-unchecked-upper-half .ensures) (c .survey-lower .kept .points) in
     let x = c .survey-lower .result in
     let y = c .survey-upper .result in
     let fx = c .survey-lower .ensures .found in
@@ -103,7 +103,7 @@ add-result t c =
     let qs = c .part-cut .last .points in
     let r = c .part-cut .result in
     let walked = c .survey-lower .last .points in
-    let halves = halving g (c .half-lower-half .result) (c .half-upper-half .result) (c .args .capacity) (c .args .points .now) qs walked r (c .if-inner .left) (omega (arith, c .if-points-capacity .left)) (c .part-cut .ensures) (c .half-lower-half .ensures) (c .half-upper-half .ensures) (c .survey-lower .kept .points) in
+    let halves = halving g (c .half-unchecked-lower-half .result) (c .half-unchecked-upper-half .result) (c .args .capacity) (c .args .points .now) qs walked r (c .if-inner .left) (omega (arith, c .if-points-capacity .left)) (c .part-cut .ensures) (c .half-unchecked-lower-half .ensures) (c .half-unchecked-upper-half .ensures) (c .survey-lower .kept .points) in
     let x = c .survey-lower .result in
     let y = c .survey-upper .result in
     let fx = c .survey-lower .ensures .found in
@@ -116,7 +116,7 @@ returns t c =
     let qs = c .part-cut .last .points in
     let r = c .part-cut .result in
     let walked = c .survey-lower .last .points in
-    let halves = halving g (c .half-lower-half .result) (c .half-upper-half .result) (c .args .capacity) (c .args .points .now) qs walked r (c .if-inner .left) (omega (arith, c .if-points-capacity .left)) (c .part-cut .ensures) (c .half-lower-half .ensures) (c .half-upper-half .ensures) (c .survey-lower .kept .points) in
+    let halves = halving g (c .half-unchecked-lower-half .result) (c .half-unchecked-upper-half .result) (c .args .capacity) (c .args .points .now) qs walked r (c .if-inner .left) (omega (arith, c .if-points-capacity .left)) (c .part-cut .ensures) (c .half-unchecked-lower-half .ensures) (c .half-unchecked-upper-half .ensures) (c .survey-lower .kept .points) in
     let x = c .survey-lower .result in
     let y = c .survey-upper .result in
     let fx = c .survey-lower .ensures .found in
