@@ -1,0 +1,41 @@
+-- Whole numbers as they are written: in decimal, without leading zeros.
+use mathlib.Core.Path.{_≡_}
+use mathlib.Core.Bool.{true, false}
+use mathlib.Core.List.{List, [], _∷_}
+use Prim.Native.Nat.{ℕ, _+_, _-_, _*_, _^_, _≤_, _<_}
+use lib.ListN.{length, getD}
+use Rattle.std.specs.declared.option.Option.{Option}
+use Rattle.std.specs.declared.option.Option.the-variants.{Some, None}
+use Rattle.std.specs.Written.{decimal}
+use Rattle.std.specs.shelf.Text.{allDigits}
+use Rattle.numbers.specs.declared.Row.{Row}
+use Rattle.numbers.specs.Words.{words}
+
+-- the value of a text of digits, after the number n
+abbrev pub value-on : ℕ → List ℕ → ℕ
+value-on n [] = n
+value-on n (b ∷ bs) = value-on (10 * n + (b - 48)) bs
+
+-- the value of a text if all its bytes are digits
+abbrev pub DigitsRead : List ℕ → Option ℕ → Type 0
+DigitsRead bs (Some n) = (allDigits bs ≡ true) × (n ≡ value-on 0 bs)
+DigitsRead bs None = allDigits bs ≡ false
+
+-- the text writes the number n, below 2 to the 32
+abbrev pub Writes : List ℕ → ℕ → Type 0
+Writes bs n = (n < 2 ^ 32) × (bs ≡ decimal n)
+
+-- the number that the text writes, or it writes none
+abbrev pub WholeRead : List ℕ → Option ℕ → Type 0
+WholeRead bs (Some n) = Writes bs n
+WholeRead bs None = (n : ℕ) → Writes bs n → ⊥
+
+-- the words of a line, between single spaces
+abbrev pub words-of : List ℕ → List (List ℕ)
+words-of line = words 32 line
+
+-- each word of the line writes a number, and the row has as many numbers and the first eight of them, zero where there is none; or some word writes no number
+abbrev pub RowRead : List ℕ → Option Row → Type 0
+RowRead line (Some r) = (r .count ≡ length (words-of line)) × ((j : ℕ) → j < length (words-of line) → (n : ℕ) × Writes (getD (words-of line) j []) n × (j < 8 → getD (r .first) j 0 ≡ n))
+    × ((j : ℕ) → length (words-of line) ≤ j → getD (r .first) j 0 ≡ 0)
+RowRead line None = (j : ℕ) × (j < length (words-of line)) × ((n : ℕ) → Writes (getD (words-of line) j []) n → ⊥)
