@@ -61,6 +61,19 @@ counted-more ns f key n l k e w i h = elim (cases-eq i key) [
   | inr ne ↦ rw (getD-set-other ns key i n 0 ne) (w i (omega arith))
 ]
 
+-- the figures over any leaf boxes, in any order
+abbrev figures-over : List ℕ → List ℕ → List Path → Figures
+figures-over ws o ls =
+    let ds = directories ws o ls in
+    record {
+      «leaf_boxes» = length ls;
+      «directory_boxes» = length ds;
+      pages = 8 + length ds + length ls;
+      «root_boundaries» = boundaries (length ws) (ends ws o ds);
+      «root_cells» = cells (length ws) (ends ws o ds);
+      «root_fits» = limits 250 1024 (length ws) (ends ws o ds);
+    }
+
 module _ (s : Space) (c : ℕ) (ps : List Keys) where
   abbrev ws : List ℕ
   ws = widths-of s
@@ -102,24 +115,10 @@ module _ (s : Space) (c : ℕ) (ps : List Keys) where
     pub root-limits : limits 250 1024 (length (take k ns)) (λ i. getD (take k ns) i 0) ≡ limits 250 1024 (length ws) root
     root-limits = limits-same 250 1024 (length (take k ns)) (λ i. getD (take k ns) i 0) root same ∙ ap (λ n. limits 250 1024 n root) keys-are
 
-  -- the figures by any order and the ways of the points in it
-  abbrev figures-by : List ℕ → List Path → Figures
-  figures-by o hs =
-      let ls = leaves (length o) c hs in
-      let ds = directories ws o ls in
-      record {
-        «leaf_boxes» = length ls;
-        «directory_boxes» = length ds;
-        pages = 8 + length ds + length ls;
-        «root_boundaries» = boundaries (length ws) (ends ws o ds);
-        «root_cells» = cells (length ws) (ends ws o ds);
-        «root_fits» = limits 250 1024 (length ws) (ends ws o ds);
-      }
-
-  pub figures-are : figures-by ord (map (way-of s) ps) ≡ figures ws c (map keys-of ps)
+  pub figures-are : figures-over ws ord (all-leaves s c ps) ≡ figures ws c (map keys-of ps)
   figures-are =
-      ap (figures-by ord) (sym (map-map (path ws ord) keys-of ps))
-      ∙ ap (λ o. figures-by o (map (path ws o) (map keys-of ps))) (s .ordered)
+      ap (λ hs. figures-over ws ord (leaves (length ord) c hs)) (sym (map-map (path ws ord) keys-of ps))
+      ∙ ap (λ o. figures-over ws o (leaves (length o) c (map (path ws o) (map keys-of ps)))) (s .ordered)
 
   pub figures-made : (l d b n : ℕ) (f : Bool) → l ≡ length (all-leaves s c ps) → d ≡ length (all-directories s c ps) → b ≡ boundaries (length ws) root → n ≡ cells (length ws) root → f ≡ limits 250 1024 (length ws) root
       → record { «leaf_boxes» = l; «directory_boxes» = d; pages = 8 + d + l; «root_boundaries» = b; «root_cells» = n; «root_fits» = f } ≡ figures ws c (map keys-of ps)
@@ -144,3 +143,7 @@ module _ (s : Space) (c : ℕ) (ps : List Keys) where
         let keeps = fits ws ord (all-leaves s c ps) in
         let small = pow-mono {i = length ord} {j = 60} (omega (arith, s .long, s .short)) in
         (omega (arith, leaf-total, cuts-bound (length ord) few-in (few-in [])), omega (arith, directory-total, cuts-bound (length ord) keeps (keeps [])))
+
+-- in another order the points have the same figures
+pub figures-shuffled : (s : Space) (c : ℕ) (ps qs : List Keys) → Shuffled ps qs → figures (widths-of s) c (map keys-of qs) ≡ figures (widths-of s) c (map keys-of ps)
+figures-shuffled s c ps qs h = sym (figures-are s c qs) ∙ ap (figures-over (widths-of s) (order-of s)) (sym (leaves-shuffled s c ps qs h)) ∙ figures-are s c ps

@@ -1,13 +1,17 @@
 -- The words of a text, one after another.
 use mathlib.Core.Path.{_≡_, refl, sym, ap, ap₂, _∙_, subst}
 use mathlib.Core.Bool.{Bool, true, false, cond}
-use mathlib.Core.List.{List, [], _∷_}
+use mathlib.Core.List.{List, [], _∷_, map}
 use mathlib.Core.Logic.{_⊎_, inl, inr, _≢_}
-use Prim.Native.Nat.{ℕ, zero, suc, _+_, _-_, _≤_, _<_}
+use Prim.Native.Nat.{ℕ, zero, suc, _+_, _-_, _^_, _≤_, _<_}
 use native.Mathlib.Omega.{arith}
 use lib.Dec.{eqb, ltb, leb}
 use lib.ListN.{length, getD, set, take, drop}
-use Rattle.std.proofs.shelf.Lists.{drop-drop, getD-drop, getD-set-same, getD-set-other, length-drop, length-set}
+use Rattle.std.specs.Written.{decimal}
+use Rattle.std.specs.shelf.Lists.{All}
+use Rattle.std.proofs.shelf.Decimals.{same-from-decimal}
+use Rattle.std.proofs.shelf.Elements.{all-getD}
+use Rattle.std.proofs.shelf.Lists.{drop-drop, getD-drop, getD-map, getD-past, getD-set-same, getD-set-other, length-drop, length-map, length-set}
 use Rattle.std.proofs.shelf.Tests.{cases-eq, eq-eqb, ne-eqb, le-leb, lt-leb}
 use Rattle.std.proofs.shelf.Ways.{tells}
 use Rattle.numbers.specs.Numbers.{Writes}
@@ -90,3 +94,37 @@ all-zero (suc (suc (suc (suc (suc zero))))) = refl
 all-zero (suc (suc (suc (suc (suc (suc zero)))))) = refl
 all-zero (suc (suc (suc (suc (suc (suc (suc zero))))))) = refl
 all-zero (suc (suc (suc (suc (suc (suc (suc (suc j)))))))) = refl
+
+-- words that each write a number write a list of numbers
+pub collected : (m : ℕ) (ws : List (List ℕ)) (f : ℕ → ℕ) → ((j : ℕ) → j < length ws → (n : ℕ) × Writes (getD ws j []) n × (j < m → f j ≡ n))
+    → (ns : List ℕ) × (ws ≡ map decimal ns) × All (λ n. n < 2 ^ 32) ns × (length ns ≡ length ws) × ((j : ℕ) → j < length ws → j < m → f j ≡ getD ns j 0)
+collected m [] f w = ([], refl, tt, refl, λ j h. absurd (omega arith))
+collected m (u ∷ ws) f w =
+    let first = w 0 (omega arith) in
+    let rest = collected (m - 1) ws (λ j. f (suc j)) (λ j h. let r = w (suc j) (omega arith) in (r .0, r .1, λ l. r .2 (omega arith))) in (
+      first .0 ∷ rest .0,
+      ap₂ (λ (v : List ℕ) (vs : List (List ℕ)). v ∷ vs) (first .1 .1) (rest .1),
+      (first .1 .0, rest .2),
+      ap suc (rest .3),
+      placed (first .0) (rest .0) (first .2) (rest .4),
+    )
+  where
+    placed : (n : ℕ) (ns : List ℕ) → (0 < m → f 0 ≡ n) → ((j : ℕ) → j < length ws → j < m - 1 → f (suc j) ≡ getD ns j 0) → (j : ℕ) → j < length (u ∷ ws) → j < m → f j ≡ getD (n ∷ ns) j 0
+    placed n ns a b zero h l = a l
+    placed n ns a b (suc j) h l = b j (omega arith) (omega arith)
+
+-- a word that writes no number is none of a list of numbers
+pub unwritten : (ws : List (List ℕ)) (j : ℕ) (ns : List ℕ) → j < length ws → ws ≡ map decimal ns → All (λ n. n < 2 ^ 32) ns → Writes (getD ws j []) (getD ns j 0)
+unwritten ws j ns h e a =
+    let l : j < length ns = omega (arith, ap length e, length-map ns decimal) in
+    (all-getD (λ n. n < 2 ^ 32) ns j 0 l a, ap (λ us. getD us j []) e ∙ getD-map decimal ns j 0 [] l)
+
+-- a line writes one list of numbers
+pub one-reading : (ms ns : List ℕ) → map decimal ms ≡ map decimal ns → All (λ n. n < 2 ^ 32) ms → All (λ n. n < 2 ^ 32) ns → ms ≡ ns
+one-reading [] [] e a b = refl
+one-reading [] (n ∷ ns) e a b = let z : _≡_ {A = ℕ} 0 1 = cc in absurd (omega arith)
+one-reading (m ∷ ms) [] e a b = let z : _≡_ {A = ℕ} 0 1 = cc in absurd (omega arith)
+one-reading (m ∷ ms) (n ∷ ns) e a b =
+    let first : decimal m ≡ decimal n = cc in
+    let rest : map decimal ms ≡ map decimal ns = cc in
+    ap₂ (λ (x : ℕ) (xs : List ℕ). x ∷ xs) (same-from-decimal m n (omega (arith, a .0)) (omega (arith, b .0)) first) (one-reading ms ns rest (a .1) (b .1))

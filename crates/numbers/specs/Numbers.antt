@@ -1,12 +1,13 @@
 -- Whole numbers as they are written: in decimal, without leading zeros.
 use mathlib.Core.Path.{_≡_}
 use mathlib.Core.Bool.{true, false}
-use mathlib.Core.List.{List, [], _∷_}
+use mathlib.Core.List.{List, [], _∷_, map}
 use Prim.Native.Nat.{ℕ, _+_, _-_, _*_, _^_, _≤_, _<_}
 use lib.ListN.{length, getD}
 use Rattle.std.specs.declared.option.Option.{Option}
 use Rattle.std.specs.declared.option.Option.the-variants.{Some, None}
 use Rattle.std.specs.Written.{decimal}
+use Rattle.std.specs.shelf.Lists.{All}
 use Rattle.std.specs.shelf.Text.{allDigits}
 use Rattle.numbers.specs.declared.Row.{Row}
 use Rattle.numbers.specs.Words.{words}
@@ -34,8 +35,11 @@ WholeRead bs None = (n : ℕ) → Writes bs n → ⊥
 abbrev pub words-of : List ℕ → List (List ℕ)
 words-of line = words 32 line
 
--- each word of the line writes a number, and the row has as many numbers and the first eight of them, zero where there is none; or some word writes no number
+-- the line writes these numbers, each below 2 to the 32, with single spaces between them
+abbrev pub Written : List ℕ → List ℕ → Type 0
+Written line ns = (words-of line ≡ map decimal ns) × All (λ n. n < 2 ^ 32) ns
+
+-- the numbers that the line writes, and no others: how many there are and the first eight, zero where there is none; or it writes no numbers
 abbrev pub RowRead : List ℕ → Option Row → Type 0
-RowRead line (Some r) = (r .count ≡ length (words-of line)) × ((j : ℕ) → j < length (words-of line) → (n : ℕ) × Writes (getD (words-of line) j []) n × (j < 8 → getD (r .first) j 0 ≡ n))
-    × ((j : ℕ) → length (words-of line) ≤ j → getD (r .first) j 0 ≡ 0)
-RowRead line None = (j : ℕ) × (j < length (words-of line)) × ((n : ℕ) → Writes (getD (words-of line) j []) n → ⊥)
+RowRead line (Some r) = (ns : List ℕ) × Written line ns × ((ms : List ℕ) → Written line ms → ms ≡ ns) × (r .count ≡ length ns) × ((j : ℕ) → j < 8 → getD (r .first) j 0 ≡ getD ns j 0)
+RowRead line None = (ns : List ℕ) → Written line ns → ⊥

@@ -3,9 +3,11 @@ use mathlib.Core.List.{[]}
 use Prim.Native.Nat.{_-_, _≤_}
 use native.Mathlib.Omega.{arith}
 use lib.ListN.{length, getD, drop}
-use Rattle.std.proofs.shelf.Lists.{length-drop}
+use Rattle.std.proofs.shelf.Lists.{getD-past, length-drop}
+use Rattle.std.proofs.shelf.Tests.{cases-lt}
+use mathlib.Core.Logic.{inl, inr}
 use Rattle.numbers.specs.Numbers.{Writes, words-of}
-use Rattle.numbers.proofs.Wording.{Row-so-far, next-word, rest-first, row-more, row-full, rest-here, rest-none, all-zero}
+use Rattle.numbers.proofs.Wording.{Row-so-far, next-word, rest-first, row-more, row-full, rest-here, rest-none, all-zero, collected, unwritten, one-reading}
 use Rattle.numbers.proofs.numbers.Needs as need
 use Rattle.numbers.proofs.numbers.Needs.{then-count-lt8, else-count-lt8}
 
@@ -39,7 +41,7 @@ returns-in-rest c =
     let inv = c .loop-start .inv in
     let next = next-word 32 line (c .loop-start .start) (c .until-end .result) (c .loop-start-test .taken) (c .until-end .ensures) in
     let first = rest-first (words-of line) (c .loop-start .count) _ _ [] (inv .0 ∙ rest-here 32 line (c .loop-start .start) (c .loop-start-test .taken) ∙ next .1) in
-    (c .loop-start .count, first .0, λ n w. c .in-rest .ensures tt n (subst (λ us. Writes us n) (first .1) w))
+    λ ns w. c .in-rest .ensures tt (getD ns (c .loop-start .count) 0) (subst (λ us. Writes us (getD ns (c .loop-start .count) 0)) (first .1) (unwritten (words-of line) (c .loop-start .count) ns (first .0) (w .0) (w .1)))
 
 pub returns : need.returns
 returns c =
@@ -47,4 +49,10 @@ returns c =
     let inv = c .loop-start .inv in
     let none = inv .0 ∙ rest-none 32 line (c .loop-start .start) (omega (arith, c .loop-start-test .left)) in
     let all : c .loop-start .count ≡ length (words-of line) = omega (arith, inv .1, length-drop (c .loop-start .count) (words-of line), ap length none) in
-    (all, (λ j h. inv .5 j (omega arith)), (λ j h. inv .6 j (omega arith)))
+    let r = collected 8 (words-of line) (λ j. getD (c .loop-start .first) j 0) (λ j h. inv .5 j (omega arith)) in (
+      r .0,
+      (r .1, r .2),
+      (λ ms w. one-reading ms (r .0) (sym (w .0) ∙ r .1) (w .1) (r .2)),
+      all ∙ sym (r .3),
+      λ j h. elim (cases-lt j (length (words-of line))) [ inl l ↦ r .4 j l h | inr g ↦ inv .6 j (omega arith) ∙ sym (getD-past (r .0) j 0 (omega (arith, r .3))) ],
+    )

@@ -10,7 +10,7 @@ use Rattle.boxes.specs.declared.space.Space.{Space}
 use Rattle.boxes.specs.Directories.{ends}
 use Rattle.boxes.specs.KeyLists.{Fitting}
 use Rattle.boxes.specs.Spaces.{widths-of, order-of}
-use Rattle.boxes.proofs.OfFigures.{points-fit, fitting-shuffled, directories-shuffled, root-countable, root-boundaries, root-cells, root-limits, figures-are, figures-made, leaf-total, directory-total, totals-fit}
+use Rattle.boxes.proofs.OfFigures.{points-fit, fitting-shuffled, directories-shuffled, root-countable, root-boundaries, root-cells, root-limits, figures-are, figures-made, figures-shuffled, leaf-total, directory-total, totals-fit}
 use Rattle.boxes.proofs.OfRoots.{all-directories}
 use Rattle.boxes.proofs.measuring.measure.Needs as need
 
@@ -33,7 +33,7 @@ returns-then-room-found c =
       c .are-points .ensures .0 (c .if-not-are-points .left),
       total ∙ ap (λ (f : Figures). f .«directory_boxes») (figures-are s (c .args .capacity) ps),
       c .if-room-found .taken,
-      c .survey-found .ensures .same,
+      (c .survey-found .ensures .same, figures-shuffled s (c .args .capacity) ps (c .survey-found .last .points) (c .survey-found .ensures .same)),
       refl,
     )
 
@@ -77,6 +77,7 @@ returns c =
     let four : length ns ≡ 4 = search needs in
     let k : s .keys - 0 ≡ s .keys = omega arith in
     let same = directories-shuffled s n ps qs (c .survey-found .ensures .same) in
+    let all = shuffled-trans ps qs (c .root-counts-counts .last .points) (c .survey-found .ensures .same) (c .root-counts-counts .ensures .same) in
     let counted : (i : ℕ) → i < s .keys → getD ns i 0 ≡ ends (widths-of s) (order-of s) (all-directories s n ps) i =
     λ i h. c .root-counts-counts .ensures .counted i h ∙ ap (λ ds. ends (widths-of s) (order-of s) ds i) (sym same) in (
       c .are-points .ensures .0 (c .if-not-are-points .left),
@@ -87,5 +88,5 @@ returns c =
           (c .cells-of .ensures ∙ root-cells s n ps ns four counted (s .keys - 0) k)
           (c .keeps-limits .ensures ∙ root-limits s n ps ns four counted (s .keys - 0) k),
       c .if-room-found .left,
-      shuffled-trans ps qs (c .root-counts-counts .last .points) (c .survey-found .ensures .same) (c .root-counts-counts .ensures .same),
+      (all, figures-shuffled s n ps (c .root-counts-counts .last .points) all),
     )

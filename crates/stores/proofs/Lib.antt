@@ -1,0 +1,4 @@
+pub mod PageLists
+pub mod Runs
+pub mod MemoryPages
+pub mod Erasing

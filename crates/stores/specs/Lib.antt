@@ -1,0 +1,4 @@
+pub mod Pages
+pub mod Memory
+pub mod Flash
+pub mod Wholes
