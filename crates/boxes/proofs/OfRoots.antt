@@ -55,7 +55,7 @@ module _ (s : Space) (c : ℕ) (ps : List Keys) where
   -- the lower ends noted, with that of the whole space where it keeps the limits
   module _ (g : GridBox) (b : IsBox s [] g) (key : ℕ) (inside : key < s .keys) (x : Survey) (found : Surveyed (g .space .now) (g .level) (box-of g) c ps x) (r0 r1 r2 : List ℕ) (n : ℕ)
       (notes : 0 + length (directories-in (g .space .now) (g .level) (box-of g) (leaves-in (g .space .now) (g .level) c ps)) ≤ length r0
-          → Noted (g .space .now) (g .level) (box-of g) (leaves-in (g .space .now) (g .level) c ps) key r0 0 r1 (x .noted))
+      → Noted (g .space .now) (g .level) (box-of g) (leaves-in (g .space .now) (g .level) c ps) key r0 0 r1 (x .noted))
       (room : length all-directories ≤ length r0) (e1 : length r1 ≡ length r0) (w : Bool) (ew : w ≡ isSome (x .scales)) (a : Added w (getD (g .low) key 0) r1 (x .noted) r2 n) where
     noted : Noted s 0 [] (leaves-in s 0 c ps) key r0 0 r1 (x .noted)
     noted =

@@ -218,21 +218,21 @@ module _ {g lo up : GridBox} {c : ℕ} {ps qs us vs : List Keys} {r : ℕ} (H : 
       -- what was noted
       module _ (key : ℕ) (inside : key < s .keys) (r0 r1 r2 : List ℕ) (n0 : ℕ)
           (notes-lower : n0 + length (directories-in (lo .space .now) (lo .level) (box-of lo) (leaves-in (lo .space .now) (lo .level) c us)) ≤ length r0
-              → Noted (lo .space .now) (lo .level) (box-of lo) (leaves-in (lo .space .now) (lo .level) c us) key r0 n0 r1 (x .noted))
+          → Noted (lo .space .now) (lo .level) (box-of lo) (leaves-in (lo .space .now) (lo .level) c us) key r0 n0 r1 (x .noted))
           (notes-upper : x .noted + length (directories-in (up .space .now) (up .level) (box-of up) (leaves-in (up .space .now) (up .level) c vs)) ≤ length r1
-              → Noted (up .space .now) (up .level) (box-of up) (leaves-in (up .space .now) (up .level) c vs) key r1 (x .noted) r2 (y .noted))
+          → Noted (up .space .now) (up .level) (box-of up) (leaves-in (up .space .now) (up .level) c vs) key r1 (x .noted) r2 (y .noted))
           (e1 : length r1 ≡ length r0) (e2 : length r2 ≡ length r1) where
         low-notes : n0 + length (directories-in s (l + 1) (half b false) lower) ≤ length r0 → Noted s (l + 1) (half b false) lower key r0 n0 r1 (x .noted)
         low-notes =
             as-half g lo false (H .lower-half) (λ t m q. n0 + length (directories-in t m q (leaves-in t m c (take r qs))) ≤ length r0 → Noted t m q (leaves-in t m c (take r qs)) key r0 n0 r1 (x .noted))
             (subst (λ ts. n0 + length (directories-in (lo .space .now) (lo .level) (box-of lo) (leaves-in (lo .space .now) (lo .level) c ts)) ≤ length r0
-                → Noted (lo .space .now) (lo .level) (box-of lo) (leaves-in (lo .space .now) (lo .level) c ts) key r0 n0 r1 (x .noted)) (H .lower-points) notes-lower)
+            → Noted (lo .space .now) (lo .level) (box-of lo) (leaves-in (lo .space .now) (lo .level) c ts) key r0 n0 r1 (x .noted)) (H .lower-points) notes-lower)
 
         high-notes : x .noted + length (directories-in s (l + 1) (half b true) upper) ≤ length r1 → Noted s (l + 1) (half b true) upper key r1 (x .noted) r2 (y .noted)
         high-notes =
             as-half g up true (H .upper-half) (λ t m q. x .noted + length (directories-in t m q (leaves-in t m c (drop r qs))) ≤ length r1 → Noted t m q (leaves-in t m c (drop r qs)) key r1 (x .noted) r2 (y .noted))
             (subst (λ ts. x .noted + length (directories-in (up .space .now) (up .level) (box-of up) (leaves-in (up .space .now) (up .level) c ts)) ≤ length r1
-                → Noted (up .space .now) (up .level) (box-of up) (leaves-in (up .space .now) (up .level) c ts) key r1 (x .noted) r2 (y .noted)) (H .upper-points) notes-upper)
+            → Noted (up .space .now) (up .level) (box-of up) (leaves-in (up .space .now) (up .level) c ts) key r1 (x .noted) r2 (y .noted)) (H .upper-points) notes-upper)
 
         module _ (room : n0 + length (directories-in s l b all-leaves) ≤ length r0) where
           room-whole : n0 + length (directories-in s l b (both lower upper)) ≤ length r0

@@ -84,13 +84,13 @@ module _ (s : Space) (b : Path) (ls us : List Path) where
   keeps-lower e =
       keeps-is s (half b false) ls
       ∙ limits-mono 60 80 (s .keys) (λ i. length (distinct (ends-in s (half b false) ls i))) (λ i. length (distinct (ends-in s b (both ls us) i)))
-          (λ i. more-distinct (ends-in s (half b false) ls i) (ends-in s b (both ls us) i) (lower-in i)) (sym (keeps-is s b (both ls us)) ∙ e)
+      (λ i. more-distinct (ends-in s (half b false) ls i) (ends-in s b (both ls us) i) (lower-in i)) (sym (keeps-is s b (both ls us)) ∙ e)
 
   pub keeps-upper : keeps-in s b (both ls us) ≡ true → keeps-in s (half b true) us ≡ true
   keeps-upper e =
       keeps-is s (half b true) us
       ∙ limits-mono 60 80 (s .keys) (λ i. length (distinct (ends-in s (half b true) us i))) (λ i. length (distinct (ends-in s b (both ls us) i)))
-          (λ i. more-distinct (ends-in s (half b true) us i) (ends-in s b (both ls us) i) (upper-in i)) (sym (keeps-is s b (both ls us)) ∙ e)
+      (λ i. more-distinct (ends-in s (half b true) us i) (ends-in s b (both ls us) i) (upper-in i)) (sym (keeps-is s b (both ls us)) ∙ e)
 
   -- the ends of both halves together
   module _ (a c : Scales) (fa : Found s (half b false) ls (Some a)) (fc : Found s (half b true) us (Some c)) where
@@ -103,7 +103,7 @@ module _ (s : Space) (b : Path) (ls us : List Path) where
     keeps-joined : limits 60 80 (s .keys) (λ i. length (both-scales a c i)) ≡ keeps-in s b (both ls us)
     keeps-joined =
         limits-same 60 80 (s .keys) (λ i. length (both-scales a c i)) (λ i. length (distinct (ends-in s b (both ls us) i)))
-          (λ i h. gathered (both-scales a c i) (ends-in s b (both ls us) i) (rises-all (scale c i) (scale a i) (scale-rises a i)) (joined-in i h) (in-joined i h))
+        (λ i h. gathered (both-scales a c i) (ends-in s b (both ls us) i) (rises-all (scale c i) (scale a i) (scale-rises a i)) (joined-in i h) (in-joined i h))
         ∙ sym (keeps-is s b (both ls us))
 
   pub found-joined : (low high r : Option Scales) → HalvesJoined (s .keys) low high r → Found s (half b false) ls low → Found s (half b true) us high → Found s b (both ls us) r

@@ -72,12 +72,7 @@ fn are_points(space: &Space, points: &[Keys]) -> bool
 }
 
 // How many different lower ends the directory boxes have in each key, and 1 for a key that does not exist.
-fn root_counts(
-    space: &Space,
-    points: &mut [Keys],
-    capacity: usize,
-    room: &mut [u32],
-) -> [usize; 4]
+fn root_counts(space: &Space, points: &mut [Keys], capacity: usize, room: &mut [u32]) -> [usize; 4]
     requires { ⌜ Fitting (now space) (now points) ⌝ }
     requires { ⌜ length (directories (widths-of (now space)) (order-of (now space)) (leaves (length (order-of (now space))) capacity (map (way-of (now space)) (now points)))) ≤ length (now room) ⌝ }
     ensures same { λ _. ⌜ Shuffled (now (points .entry)) (now (points .exit)) ⌝ }
@@ -103,6 +98,19 @@ pub fn measure(
     if !are_points(space, points) {
         return Err(NotMeasured::NotPoints);
     }
+    measure_points(space, capacity, points, room)
+}
+
+// The same of points of the space.
+fn measure_points(
+    space: &Space,
+    capacity: usize,
+    points: &mut [Keys],
+    room: &mut [u32],
+) -> Result<Figures, NotMeasured>
+    requires { ⌜ Points (now space) (now points) ⌝ }
+    ensures { λ r. ⌜ Measured (now (space .entry)) capacity (now (points .entry)) (now (points .exit)) (now (room .entry)) (now (room .exit)) r ⌝ }
+{
     let found = survey(&GridBox::whole(space), points, capacity, 0, &mut [], 0);
     if room.len() < found.directory_boxes {
         return Err(NotMeasured::ShortRoom(found.directory_boxes));

@@ -42,7 +42,14 @@ pub(crate) fn survey(
     let lower_half = inner.half_unchecked(false);
     let upper_half = inner.half_unchecked(true);
     let lower = survey(&lower_half, &mut points[0..cut], capacity, key, room, noted);
-    let upper = survey(&upper_half, &mut points[cut..], capacity, key, room, lower.noted);
+    let upper = survey(
+        &upper_half,
+        &mut points[cut..],
+        capacity,
+        key,
+        room,
+        lower.noted,
+    );
     let leaf_boxes = lower.leaf_boxes + upper.leaf_boxes;
     let scales = halves_joined(&lower.scales, &upper.scales, inner.space.keys);
     if scales.is_some() {
@@ -53,7 +60,12 @@ pub(crate) fn survey(
             noted: upper.noted,
         };
     }
-    let noted = note(room, upper.noted, lower.scales.is_some(), lower_half.low[key]);
+    let noted = note(
+        room,
+        upper.noted,
+        lower.scales.is_some(),
+        lower_half.low[key],
+    );
     let noted = note(room, noted, upper.scales.is_some(), upper_half.low[key]);
     Survey {
         leaf_boxes,

@@ -12,7 +12,7 @@ use Rattle.std.specs.shelf.Text.{allDigits}
 use Rattle.std.proofs.shelf.Decimals.{decimal-some, decimal-digit, length-decimal-le, first-decimal, digits-decimal, value-decimal, decimal-value}
 use Rattle.std.proofs.shelf.Numerals.{Numerals, numerals-by-fold}
 use Rattle.std.proofs.shelf.Tests.{cases-eq}
-use Rattle.numbers.specs.Numbers.{Writes, value-on}
+use Rattle.numbers.specs.Numbers.{Writes, WritesUpTo, value-on}
 
 own : Numerals (λ ds. allDigits ds ≡ true) (value-on 0)
 own = numerals-by-fold _ (search needs) value-on (search needs)
@@ -40,5 +40,5 @@ written bs n (h, e) =
       value = rw e (value-decimal own n w);
     }
 
-pub writes : (bs : List ℕ) (n : ℕ) → 0 < length bs → (getD bs 0 0 ≡ 48 → length bs ≡ 1) → allDigits bs ≡ true → n ≡ value-on 0 bs → n < 2 ^ 32 → Writes bs n
-writes bs n some plain d e h = (h, sym (ap decimal e ∙ decimal-value own bs d some plain (omega arith)))
+pub writes : (bs : List ℕ) (n : ℕ) → 0 < length bs → (getD bs 0 0 ≡ 48 → length bs ≡ 1) → allDigits bs ≡ true → (m : ℕ) → n ≡ value-on 0 bs → n ≤ m → m ≤ 4294967295 → WritesUpTo m bs n
+writes bs n some plain d m e h k = (h, sym (ap decimal e ∙ decimal-value own bs d some plain (omega arith)))

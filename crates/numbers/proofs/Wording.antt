@@ -3,7 +3,7 @@ use mathlib.Core.Path.{_≡_, refl, sym, ap, ap₂, _∙_, subst}
 use mathlib.Core.Bool.{Bool, true, false, cond}
 use mathlib.Core.List.{List, [], _∷_, map}
 use mathlib.Core.Logic.{_⊎_, inl, inr, _≢_}
-use Prim.Native.Nat.{ℕ, zero, suc, _+_, _-_, _^_, _≤_, _<_}
+use Prim.Native.Nat.{ℕ, zero, suc, _+_, _-_, _≤_, _<_}
 use native.Mathlib.Omega.{arith}
 use lib.Dec.{eqb, ltb, leb}
 use lib.ListN.{length, getD, set, take, drop}
@@ -97,7 +97,7 @@ all-zero (suc (suc (suc (suc (suc (suc (suc (suc j)))))))) = refl
 
 -- words that each write a number write a list of numbers
 pub collected : (m : ℕ) (ws : List (List ℕ)) (f : ℕ → ℕ) → ((j : ℕ) → j < length ws → (n : ℕ) × Writes (getD ws j []) n × (j < m → f j ≡ n))
-    → (ns : List ℕ) × (ws ≡ map decimal ns) × All (λ n. n < 2 ^ 32) ns × (length ns ≡ length ws) × ((j : ℕ) → j < length ws → j < m → f j ≡ getD ns j 0)
+    → (ns : List ℕ) × (ws ≡ map decimal ns) × All (λ n. n ≤ 4294967295) ns × (length ns ≡ length ws) × ((j : ℕ) → j < length ws → j < m → f j ≡ getD ns j 0)
 collected m [] f w = ([], refl, tt, refl, λ j h. absurd (omega arith))
 collected m (u ∷ ws) f w =
     let first = w 0 (omega arith) in
@@ -114,13 +114,13 @@ collected m (u ∷ ws) f w =
     placed n ns a b (suc j) h l = b j (omega arith) (omega arith)
 
 -- a word that writes no number is none of a list of numbers
-pub unwritten : (ws : List (List ℕ)) (j : ℕ) (ns : List ℕ) → j < length ws → ws ≡ map decimal ns → All (λ n. n < 2 ^ 32) ns → Writes (getD ws j []) (getD ns j 0)
+pub unwritten : (ws : List (List ℕ)) (j : ℕ) (ns : List ℕ) → j < length ws → ws ≡ map decimal ns → All (λ n. n ≤ 4294967295) ns → Writes (getD ws j []) (getD ns j 0)
 unwritten ws j ns h e a =
     let l : j < length ns = omega (arith, ap length e, length-map ns decimal) in
-    (all-getD (λ n. n < 2 ^ 32) ns j 0 l a, ap (λ us. getD us j []) e ∙ getD-map decimal ns j 0 [] l)
+    (all-getD (λ n. n ≤ 4294967295) ns j 0 l a, ap (λ us. getD us j []) e ∙ getD-map decimal ns j 0 [] l)
 
 -- a line writes one list of numbers
-pub one-reading : (ms ns : List ℕ) → map decimal ms ≡ map decimal ns → All (λ n. n < 2 ^ 32) ms → All (λ n. n < 2 ^ 32) ns → ms ≡ ns
+pub one-reading : (ms ns : List ℕ) → map decimal ms ≡ map decimal ns → All (λ n. n ≤ 4294967295) ms → All (λ n. n ≤ 4294967295) ns → ms ≡ ns
 one-reading [] [] e a b = refl
 one-reading [] (n ∷ ns) e a b = let z : _≡_ {A = ℕ} 0 1 = cc in absurd (omega arith)
 one-reading (m ∷ ms) [] e a b = let z : _≡_ {A = ℕ} 0 1 = cc in absurd (omega arith)

@@ -3,7 +3,7 @@ ghost use mathlib.Core.Path.{_≡_};
 ghost use Prim.Native.Nat.{_≤_, _<_};
 ghost use lib.ListN.{length, getD};
 ghost use Rattle.std.specs.Orderings.{Decides};
-ghost use Rattle.numbers.specs.Numbers.{DigitsRead, WholeRead, RowRead};
+ghost use Rattle.numbers.specs.Numbers.{DigitsRead, WholeRead, WholeUpTo, RowRead, RowReadAt};
 ghost use Rattle.numbers.specs.Words.{FirstAt};
 
 // The numbers of a line: how many there are, and the first eight of them.
@@ -17,13 +17,20 @@ pub struct Row {
 pub fn whole(text: &[u8]) -> Option<u32>
     ensures { λ r. ⌜ WholeRead (now (text .entry)) r ⌝ }
 {
+    whole_up_to(text, 4_294_967_295)
+}
+
+// The same of a number that is not above the greatest.
+fn whole_up_to(text: &[u8], greatest: u32) -> Option<u32>
+    ensures { λ r. ⌜ WholeUpTo greatest (now (text .entry)) r ⌝ }
+{
     if text.len() == 0 || text.len() > 10 || has_leading_zero(text) {
         return None;
     }
     let Some(number) = digits(text) else {
         return None;
     };
-    if number > 4_294_967_295 {
+    if number > greatest as u64 {
         return None;
     }
     Some(number as u32)
@@ -67,11 +74,18 @@ pub fn until(text: &[u8], from: usize, mark: u8) -> usize
 pub fn numbers(line: &[u8]) -> Option<Row>
     ensures { λ r. ⌜ RowRead (now (line .entry)) r ⌝ }
 {
+    row_of(line, b' ')
+}
+
+// The same with another mark between them.
+fn row_of(line: &[u8], mark: u8) -> Option<Row>
+    ensures { λ r. ⌜ RowReadAt mark (now (line .entry)) r ⌝ }
+{
     let mut count: usize = 0;
     let mut first = [0; 8];
     let mut start: usize = 0;
     while start <= line.len() {
-        let end = until(line, start, b' ');
+        let end = until(line, start, mark);
         let Some(number) = whole(&line[start..end]) else {
             return None;
         };

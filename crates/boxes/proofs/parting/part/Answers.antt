@@ -21,7 +21,7 @@ is-in-upper-requires c κs =
     let s = c .args .inner .now .space .now in (
       c .pre .0,
       ap length (c .as-slice .ensures) ∙ p .long
-      ∙ fitting-at s (c .loop-i .points) (c .loop-i .i) p (all-shuffled (λ (q : Keys). q .count ≡ s .keys) (c .args .points .now) (c .loop-i .points) (c .loop-i .inv .0) (c .pre .1))
+          ∙ fitting-at s (c .loop-i .points) (c .loop-i .i) p (all-shuffled (λ (q : Keys). q .count ≡ s .keys) (c .args .points .now) (c .loop-i .points) (c .loop-i .inv .0) (c .pre .1))
           (omega (arith, c .loop-i-test .taken, c .loop-i .kept .points)) (c .index-points-i .is),
     )
 

@@ -4,7 +4,6 @@ use native.Mathlib.Omega.{arith}
 use borrow.Author.Needs.{needs}
 use lib.ListN.{length, getD}
 use Rattle.std.proofs.shelf.Sorted.{shuffled-trans}
-use Rattle.std.proofs.shelf.Tests.{false≢true}
 use Rattle.boxes.specs.declared.figures.Figures.{Figures}
 use Rattle.boxes.specs.declared.space.Space.{Space}
 use Rattle.boxes.specs.Directories.{ends}
@@ -12,16 +11,13 @@ use Rattle.boxes.specs.KeyLists.{Fitting}
 use Rattle.boxes.specs.Spaces.{widths-of, order-of}
 use Rattle.boxes.proofs.OfFigures.{points-fit, fitting-shuffled, directories-shuffled, root-countable, root-boundaries, root-cells, root-limits, figures-are, figures-made, figures-shuffled, leaf-total, directory-total, totals-fit}
 use Rattle.boxes.proofs.OfRoots.{all-directories}
-use Rattle.boxes.proofs.measuring.measure.Needs as need
-
-pub returns-then-not-are-points : need.returns-then-not-are-points
-returns-then-not-are-points c = ((λ h. false≢true (sym (c .if-not-are-points .taken) ∙ c .are-points .ensures .1 h)), refl, refl)
+use Rattle.boxes.proofs.measuring.measure_points.Needs as need
 
 pub survey-found-requires : need.survey-found-requires
 survey-found-requires c κs =
     let s = c .args .space .now in
     let e = c .whole .ensures .0 in (
-      subst (λ (t : Space). Fitting t (c .args .points .now)) (sym e) (points-fit s (c .args .points .now) (c .are-points .ensures .0 (c .if-not-are-points .left))),
+      subst (λ (t : Space). Fitting t (c .args .points .now)) (sym e) (points-fit s (c .args .points .now) (c .pre)),
       omega (arith, ap (λ (t : Space). t .keys) e, s .allowed .0, s .wide),
     )
 
@@ -30,7 +26,7 @@ returns-then-room-found c =
     let s = c .args .space .now in
     let ps = c .args .points .now in
     let total = directory-total s (c .args .capacity) ps (c .whole .result) (c .whole .ensures) (c .survey-found .result) (c .survey-found .ensures .found) in (
-      c .are-points .ensures .0 (c .if-not-are-points .left),
+      c .pre,
       total ∙ ap (λ (f : Figures). f .«directory_boxes») (figures-are s (c .args .capacity) ps),
       c .if-room-found .taken,
       (c .survey-found .ensures .same, figures-shuffled s (c .args .capacity) ps (c .survey-found .last .points) (c .survey-found .ensures .same)),
@@ -43,7 +39,7 @@ root-counts-counts-requires c κs =
     let ps = c .args .points .now in
     let qs = c .survey-found .last .points in
     let total = directory-total s (c .args .capacity) ps (c .whole .result) (c .whole .ensures) (c .survey-found .result) (c .survey-found .ensures .found) in (
-      fitting-shuffled s (c .args .capacity) ps qs (c .survey-found .ensures .same) (points-fit s ps (c .are-points .ensures .0 (c .if-not-are-points .left))),
+      fitting-shuffled s (c .args .capacity) ps qs (c .survey-found .ensures .same) (points-fit s ps (c .pre)),
       omega (arith, total, c .if-room-found .left, ap length (directories-shuffled s (c .args .capacity) ps qs (c .survey-found .ensures .same))),
     )
 
@@ -80,7 +76,7 @@ returns c =
     let all = shuffled-trans ps qs (c .root-counts-counts .last .points) (c .survey-found .ensures .same) (c .root-counts-counts .ensures .same) in
     let counted : (i : ℕ) → i < s .keys → getD ns i 0 ≡ ends (widths-of s) (order-of s) (all-directories s n ps) i =
     λ i h. c .root-counts-counts .ensures .counted i h ∙ ap (λ ds. ends (widths-of s) (order-of s) ds i) (sym same) in (
-      c .are-points .ensures .0 (c .if-not-are-points .left),
+      c .pre,
       figures-made s n ps (x .«leaf_boxes») (x .«directory_boxes») (c .boundaries-of .result) (c .cells-of .result) (c .keeps-limits .result)
           (leaf-total s n ps (c .whole .result) (c .whole .ensures) x (c .survey-found .ensures .found))
           (directory-total s n ps (c .whole .result) (c .whole .ensures) x (c .survey-found .ensures .found))
