@@ -25,7 +25,7 @@ pub mod Differing
 pub mod Cases
 pub mod Tallies
 pub mod HalfLeaves
-pub mod LeafCount
+pub mod Halvings
 pub mod Shuffles
 pub mod Walks
 pub mod OfSurveys

@@ -33,7 +33,7 @@ use Rattle.boxes.specs.Surveys.{Surveyed}
 use Rattle.boxes.proofs.Cuts.{in-map-back}
 use Rattle.boxes.proofs.Differing.{few-different}
 use Rattle.boxes.proofs.DirectoryCount.{boundaries-same, cells-same, limits-same}
-use Rattle.boxes.proofs.LeafCount.{cuts-bound}
+use Rattle.boxes.proofs.Halvings.{cuts-bound}
 use Rattle.boxes.proofs.Lows.{lows-below}
 use Rattle.boxes.proofs.OfBoxes.{names}
 use Rattle.boxes.proofs.OfRoots.{as-whole, all-leaves, all-directories, whole-leaves, whole-directories}

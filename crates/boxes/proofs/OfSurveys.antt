@@ -34,7 +34,7 @@ use Rattle.boxes.specs.Scales.{scale, HalvesJoined}
 use Rattle.boxes.specs.Spaces.{widths-of, order-of}
 use Rattle.boxes.specs.Surveys.{leaves-in, ends-in, keeps-in, directories-in, Found, Surveyed, Noted, Added}
 use Rattle.boxes.proofs.HalfLeaves.{both, leaves-parted}
-use Rattle.boxes.proofs.LeafCount.{cuts-bound, half-level}
+use Rattle.boxes.proofs.Halvings.{cuts-bound, half-level}
 use Rattle.boxes.proofs.OfBoxes.{box-long, low-key}
 use Rattle.boxes.proofs.Shuffles.{shuffled-append}
 use Rattle.boxes.proofs.Walks.{keeps-one, ends-self, found-joined, directory-alone, number-open, room-lower, room-upper, noted-shut, noted-open}

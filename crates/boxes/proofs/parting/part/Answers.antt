@@ -7,7 +7,7 @@ use Rattle.std.proofs.shelf.Sorted.{shuffled-refl, shuffled-trans, all-shuffled
 use Rattle.boxes.specs.declared.keys.Keys.{Keys}
 use Rattle.boxes.specs.Points.{path}
 use Rattle.boxes.specs.Spaces.{widths-of, order-of}
-use Rattle.boxes.proofs.LeafCount.{fitting-at}
+use Rattle.boxes.proofs.Halvings.{fitting-at}
 use Rattle.boxes.proofs.Sides.{Standing, upper-more, lower-swapped, upper-swapped}
 use Rattle.boxes.proofs.parting.part.Needs as need
 use Rattle.boxes.proofs.parting.part.Needs.{then-not-is-in-upper, else-not-is-in-upper}

@@ -9,7 +9,7 @@ use Rattle.std.proofs.shelf.Sorted.{shuffled-refl}
 use Rattle.boxes.specs.declared.space.Space.{Space}
 use Rattle.boxes.specs.Surveys.{leaves-in}
 use Rattle.boxes.proofs.HalfLeaves.{leaf-few, leaf-point}
-use Rattle.boxes.proofs.LeafCount.{half-falls}
+use Rattle.boxes.proofs.Halvings.{half-falls}
 use Rattle.boxes.proofs.OfSurveys.{Halving, halving, leaf-surveyed, leaf-noted, lower-part, parts-back, lower-fits, upper-fits, both-shuffled, leaf-boxes-fit, directory-boxes-fit, surveyed-shut, surveyed-open, notes-shut, notes-open}
 use Rattle.boxes.proofs.surveys.+survey.Needs as need
 use Rattle.boxes.proofs.surveys.+survey.Needs.{then-points-capacity·by·then-points-capacity, then-points-capacity·by·else-points-capacity·then-inner}
