@@ -11,7 +11,7 @@ pub struct Header {
 }
 
 // The capacity, from 1 to 169, and the space; none for a line of another form, or widths that are not allowed.
-pub fn read_header(line: &[u8]) -> Option<Header>
+pub(crate) fn read_header(line: &[u8]) -> Option<Header>
     ensures { λ r. ⌜ HeaderRead (now (line .entry)) r ⌝ }
 {
     let Some(row) = numbers(line) else {

@@ -32,7 +32,7 @@ pub struct Readings {
 }
 
 // The points that the rows write, each once, from the end of the first line on, and the lines turned away.
-pub fn read_points(heap: Global, space: &Space, rows: &[u8]) -> Result<Readings, AllocError>
+pub(crate) fn read_points(heap: Global, space: &Space, rows: &[u8]) -> Result<Readings, AllocError>
     ensures { λ r. ⌜ made r (λ x. Points (now (space .entry)) (vec-items (x .points))) ⌝ }
 {
     let mut turned = Vec::new(heap);
