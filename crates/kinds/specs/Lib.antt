@@ -1,0 +1,4 @@
+pub mod Fields
+pub mod Meaning
+pub mod Formats
+pub mod Kinds
