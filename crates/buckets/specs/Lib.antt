@@ -1,0 +1,7 @@
+pub mod Bytes
+pub mod Firsts
+pub mod Bucket
+pub mod BucketLaws
+pub mod BucketRules
+pub mod BucketWrites
+pub mod PageMaps
