@@ -9,7 +9,7 @@ use Rattle.std.proofs.shelf.Bits.{mul-le, div-below, mod-below, div-add-mod'}
 use Rattle.std.proofs.shelf.Lists.{take-at, drop-at, drop-drop, getD-take, getD-drop, length-take, length-drop, ext-getD, getD-append-right, getD-replicate, getD-past, length-replicate}
 use Rattle.std.proofs.shelf.Tests.{cases-lt}
 use Rattle.kinds.specs.Meaning.{Meaning, Lawful}
-use Rattle.buckets.specs.Bytes.{filled, joined}
+use Rattle.images.specs.Bytes.{filled, joined}
 use Rattle.buckets.specs.Bucket.{BucketOf, bucket-layout, record-at}
 use Rattle.buckets.specs.BucketLaws.{One-bucket, Records-placed, Buckets-full}
 use Rattle.buckets.proofs.BucketRooms.{more-size, ends-inside, fits-inside}

@@ -9,7 +9,7 @@ use Rattle.boxes.specs.Space.{Lies}
 use Rattle.boxes.specs.Spaces.{widths-of, order-of}
 use Rattle.boxes.specs.declared.space.Space.{Space}
 use Rattle.kinds.specs.Meaning.{Meaning}
-use Rattle.buckets.specs.Bytes.{filled, joined}
+use Rattle.images.specs.Bytes.{filled, joined}
 use Rattle.std.specs.declared.option.Option.the-variants.{Some}
 
 -- mark, number of records, level, the records side by side, zeros

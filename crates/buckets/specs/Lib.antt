@@ -1,4 +1,3 @@
-pub mod Bytes
 pub mod Firsts
 pub mod Bucket
 pub mod BucketLaws

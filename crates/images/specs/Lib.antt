@@ -1,0 +1,11 @@
+pub mod Bytes
+pub mod Cells
+pub mod Checking
+pub mod Checks
+pub mod Directory
+pub mod Laws
+pub mod Loops
+pub mod Memory
+pub mod Paged
+pub mod Parts
+pub mod Tilings
