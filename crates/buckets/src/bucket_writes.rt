@@ -18,6 +18,13 @@ use kinds::Kind;
 pub fn start_bucket(level: u8, page: &mut [u8; 512])
     ensures { λ _. ⌜ ((m : Meaning) → BucketOf m level [] (now (page .exit))) ⌝ }
 {
+    write_header(level, page);
+}
+
+// The mark, no records and the level, and zeros behind them.
+fn write_header(level: u8, page: &mut [u8; 512])
+    ensures { λ _. ⌜ ((m : Meaning) → BucketOf m level [] (now (page .exit))) ⌝ }
+{
     *page = [0; 512];
     page[0] = 0x42;
     page[1] = 0x4B;
