@@ -50,3 +50,10 @@ first-and-rest (n ∷ ns) h = (n, ns, refl)
 pub point-read : (s : Space) (line ns : List ℕ) → Written line ns → ((ms : List ℕ) → Written line ms → ms ≡ ns) → (us : List ℕ) → us ≡ ns → (o : Option Keys) → PointMade s us o → PointRead s line o
 point-read s line ns w one us e None m = λ ks v p. m (subst (Point (widths-of s)) (one ks v ∙ sym e) p)
 point-read s line ns w one us e (Some p) m = (subst (Written line) (sym (m .1 ∙ e)) w, subst (Point (widths-of s)) (sym (m .1)) (m .0))
+
+pub zeros-four : (j : ℕ) → _≡_ {A = ℕ} (getD (0 ∷ 0 ∷ 0 ∷ 0 ∷ []) j 0) 0
+zeros-four zero = refl
+zeros-four (suc zero) = refl
+zeros-four (suc (suc zero)) = refl
+zeros-four (suc (suc (suc zero))) = refl
+zeros-four (suc (suc (suc (suc j)))) = refl

@@ -1,8 +1,11 @@
 // The points of the further lines, and the lines that are turned away.
 ghost use mathlib.Core.Path.{_≡_};
+ghost use Prim.Native.Nat.{ℕ, _<_};
+ghost use lib.ListN.{getD};
 ghost use Rattle.std.specs.Of.Vec.{vec-items};
 ghost use Rattle.std.specs.Vec.{made};
 ghost use Rattle.boxes.specs.Figures.{Points};
+ghost use Rattle.boxes.specs.KeyLists.{keys-of};
 ghost use Rattle.sheet.specs.Rows.{PointRead};
 use boxes::Keys;
 use boxes::Space;
@@ -80,7 +83,7 @@ fn read_rows(
         line += 1;
         match read_point(space, &rows[start..end]) {
             Some(point) => {
-                let keys = point.values;
+                let keys = four_keys(&point);
                 readings.push(Reading { keys, line })?
             }
             None => turned.push(Turned { line, number: 4 })?,
@@ -88,6 +91,17 @@ fn read_rows(
         start = end + 1;
     }
     Ok(readings)
+}
+
+// The keys of a point, with zeros behind them.
+fn four_keys(point: &Keys) -> [u32; 4]
+    ensures { λ r. ⌜ ((i : ℕ) → i < 4 → getD r i 0 ≡ getD (keys-of (now (point .entry))) i 0) ⌝ }
+{
+    let mut four = [0; 4];
+    for i in 0..point.count {
+        four[i] = point.values[i];
+    }
+    four
 }
 
 // The point whose keys the row writes.
