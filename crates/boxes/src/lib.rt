@@ -1,3 +1,5 @@
+#![tactic(auto)]
+
 ghost use Rattle.std.specs.Prelude.{◌≡◌, zero};
 ghost use Rattle.boxes.specs.Cases.{Cases};
 ghost use Rattle.boxes.specs.Laws.{BoxesStand, LeavesStand, OrderStands, ChangesStand, CellsStand, NumbersStand, RootCellsStand, AnyOrder};

@@ -47,7 +47,7 @@ fn root_ends(
     let found = survey(&whole, points, capacity, key, room, 0);
     let noted = note(room, found.noted, found.scales.is_some(), whole.low[key]);
     let lower_ends = &mut room[0..noted];
-    lower_ends.sort();
+    lower_ends.sort_unstable();
     different(lower_ends)
 }
 

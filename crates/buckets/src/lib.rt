@@ -1,4 +1,6 @@
 // Bucket pages, and the map of the pages in use.
+#![tactic(auto)]
+
 mod bucket;
 mod bucket_faults;
 mod bucket_laws;

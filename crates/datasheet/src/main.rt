@@ -1,4 +1,6 @@
 // Prints the figures of the set of points that standard input writes.
+#![tactic(auto)]
+
 use std::io;
 use std::io::Read;
 

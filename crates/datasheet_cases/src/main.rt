@@ -1,4 +1,6 @@
 // Runs the cases in data/: for each name on standard input, does the answer to NAME.in equal NAME.out?
+#![tactic(auto)]
+
 use std::{fs, io};
 
 fn main(rt: HostRuntime) -> io::Result<()> {

@@ -1,4 +1,6 @@
 // The grid: a set of records of a kind, in the pages of a store.
+#![tactic(auto)]
+
 mod counting;
 mod finding;
 mod grid;

@@ -1,3 +1,5 @@
 // Examples of the grid over both stores.
+#![tactic(auto)]
+
 #[cfg(test)]
 mod tests;

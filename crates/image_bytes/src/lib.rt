@@ -1,4 +1,6 @@
 // Images read from bytes and written to bytes.
+#![tactic(auto)]
+
 mod counting;
 mod fields;
 mod parsing;

@@ -1,4 +1,6 @@
 // The images of boxes: the directory image of a box, and the root image of the whole space.
+#![tactic(auto)]
+
 ghost use Rattle.std.specs.Prelude.{◌≡◌, zero};
 ghost use Rattle.images.specs.Laws.{CellsStand, BuiltStands, DepictedStands, PiecesStand, SameStands, ChecksStand, PagesStand, OneCellStands, OneRoot, OneDirectory, ImagesFull};
 

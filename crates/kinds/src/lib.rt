@@ -1,4 +1,6 @@
 // Record kinds: which strings of bytes are records, and the keys of each.
+#![tactic(auto)]
+
 mod daylight;
 mod fields;
 mod insulation;

@@ -1,4 +1,6 @@
 // Lines of whole numbers, as the programs read them: decimal, without leading zeros, single spaces between them.
+#![tactic(auto)]
+
 ghost use Rattle.std.specs.Prelude.{◌≡◌, ◌<◌, ◌≤◌, length, Decides, slice_index};
 ghost use Rattle.numbers.specs.Numbers.{DigitsRead, WholeRead, WholeUpTo, RowRead, RowReadAt};
 ghost use Rattle.numbers.specs.Words.{FirstAt};

@@ -1,5 +1,7 @@
 // Tells of each page on standard input whether it is lawful. A line has the kind, `d` for a directory page or `b` for a bucket page, the number of pages of the store,
 // the level of the box, its lower ends with commas between them, and the bytes in hexadecimal without the zeros at the end; `-` stands for no byte.
+#![tactic(auto)]
+
 mod page_case;
 
 use page_case::PageCase;

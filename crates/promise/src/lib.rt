@@ -1,4 +1,6 @@
 // What every call of the grid does, and the promise over every run of calls, with its proof from what the calls do.
+#![tactic(auto)]
+
 ghost use Rattle.std.specs.Prelude.{◌≡◌, zero};
 ghost use Rattle.promise.specs.Exact.{OneAnswer, TwoPages};
 ghost use Rattle.promise.specs.Fresh.{FreshStands};

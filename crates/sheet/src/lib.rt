@@ -1,4 +1,6 @@
 // So many readings, so many pages: the figures of a set of points that a text writes.
+#![tactic(auto)]
+
 ghost use Rattle.std.specs.Prelude.{◌≡◌, ℕ, ◌≤◌, List, map, length, IfOk, string_bytes};
 ghost use Rattle.boxes.specs.Figures.{figures, Points, Reordered};
 ghost use Rattle.boxes.specs.KeyLists.{keys_of};

@@ -1,4 +1,6 @@
 // Page stores. A page store means a list of pages of 512 bytes; how many it has is fixed.
+#![tactic(auto)]
+
 ghost use Rattle.std.specs.Prelude.{◌≡◌, ℕ, List, length};
 ghost use Rattle.stores.specs.Pages.{Whole, Fetched, Stored, refusal_number};
 

@@ -1,4 +1,6 @@
 // Runs the stores on memories of many lengths.
+#![tactic(auto)]
+
 pub mod lent;
 pub mod ram;
 #[cfg(test)]

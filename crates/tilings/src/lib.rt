@@ -1,4 +1,6 @@
 // Images made from the tilings of a box, and the lower ends that an image shows.
+#![tactic(auto)]
+
 mod building;
 mod collecting;
 mod corners;

@@ -1,4 +1,6 @@
 // How often the sector store erases: six workloads of 256 page writes, each on four fresh sectors.
+#![tactic(auto)]
+
 mod workloads;
 
 ghost use Rattle.std.specs.Prelude.{◌≡◌, length};
