@@ -1,11 +1,10 @@
 -- The directory boxes in a box that passes a limit are those of its halves.
-use Rattle.std.proofs.Common.{◌≡◌, ℕ, zero, suc, ◌+◌, ◌-◌, ◌*◌, ◌<◌, ◌≤◌, Bool, true, false, cond, ◌&&◌, leb, List, [], ◌∷◌, ◌++◌, map, length, get_or, filter, sym, refl, ap, ◌∙◌, subst, ap₂, inl, inr, append_assoc, append-nil, arith}
+use Rattle.std.proofs.Common.{◌≡◌, ℕ, zero, suc, ◌-◌, ◌*◌, ◌<◌, ◌≤◌, Bool, true, false, cond, ◌&&◌, leb, List, [], ◌∷◌, ◌++◌, map, length, get_or, filter, sym, refl, ap, ◌∙◌, ap₂, inl, inr, append_assoc, append-nil, arith}
 use mathlib.Core.Path.{fun_ext}
-use Rattle.std.proofs.lemmas.List.{length-append, length-map}
 use Rattle.std.proofs.lemmas.List.Elements.{filter-append}
 use Rattle.std.proofs.lemmas.Bool.{and_left, cases_eq, lt-leb}
-use Rattle.boxes.specs.Cuts.{Path, half, cuts, around, same}
-use Rattle.boxes.specs.Directories.{distinct, boundaries, cells, limits, fits, directories}
+use Rattle.boxes.specs.Cuts.{Path, half, cuts, around}
+use Rattle.boxes.specs.Directories.{distinct, boundaries, cells, limits, directories}
 use Rattle.boxes.specs.Fitting.{fits_from, directories_from}
 use Rattle.boxes.specs.Points.{lows}
 use Rattle.boxes.proofs.HalfLeaves.{both}

@@ -1,11 +1,10 @@
 -- The figures of a set of points, from the survey of the whole space.
-use Rattle.std.proofs.Common.{◌≡◌, ℕ, ◌+◌, ◌-◌, ◌^◌, ◌<◌, ◌≤◌, Bool, true, false, leb, List, [], ◌∷◌, map, length, get_or, take, set, sum, sym, refl, ap, ◌∙◌, subst, ap₂, inl, inr, arith, pow_mono}
+use Rattle.std.proofs.Common.{◌≡◌, ℕ, ◌+◌, ◌^◌, ◌<◌, ◌≤◌, Bool, leb, List, [], map, length, get_or, take, set, sym, ap, ◌∙◌, inl, inr, arith, pow_mono}
 use mathlib.Core.Path.{fun_ext}
 use mathlib.Core.List.{map-map}
 use Rattle.std.specs.List.Sorted.{IsPermutation}
-use Rattle.std.specs.List.{AllByRecursion as All}
 use Rattle.std.proofs.ByRecursion.{All-weaker, all_shuffled}
-use Rattle.std.proofs.lemmas.List.{get_or-set_same, get_or-set_other, get_or-take, length-set, length-take}
+use Rattle.std.proofs.lemmas.List.{get_or-set_same, get_or-set_other, get_or-take, length-take}
 use Rattle.std.proofs.lemmas.Bool.{cases_eq}
 use Rattle.boxes.specs.declared.figures.Figures.{Figures}
 use Rattle.boxes.specs.declared.grid_box.GridBox.{GridBox}
@@ -14,12 +13,11 @@ use Rattle.boxes.specs.declared.space.Space.{Space}
 use Rattle.boxes.specs.declared.survey.Survey.{Survey}
 use Rattle.boxes.specs.Counts.{Countable}
 use Rattle.boxes.specs.Cuts.{Path, cuts, around}
-use Rattle.boxes.specs.Directories.{boundaries, cells, directories, distinct, ends, fits, limits}
+use Rattle.boxes.specs.Directories.{boundaries, cells, directories, ends, fits, limits}
 use Rattle.boxes.specs.Figures.{figures, Points}
 use Rattle.boxes.specs.GridBoxes.{box_of, IsBox}
 use Rattle.boxes.specs.KeyLists.{Fitting, keys_of, way_of}
 use Rattle.boxes.specs.Leaves.{few, leaves}
-use Rattle.boxes.specs.Order.{order}
 use Rattle.boxes.specs.Points.{Point, lows, path}
 use Rattle.boxes.specs.Spaces.{widths_of, order_of}
 use Rattle.boxes.specs.Surveys.{Surveyed}

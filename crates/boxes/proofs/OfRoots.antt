@@ -1,7 +1,6 @@
 -- The survey of the whole space, and the lower ends of its directory boxes in one key.
-use Rattle.std.proofs.Common.{◌≡◌, ℕ, ◌+◌, ◌-◌, ◌^◌, ◌<◌, ◌≤◌, Bool, true, false, cond, ◌⊎◌, List, [], ◌∷◌, ◌++◌, map, length, get_or, take, is_some, sym, refl, ap, ◌∙◌, subst, ap₂, subst₂, inl, inr, arith}
+use Rattle.std.proofs.Common.{◌≡◌, ℕ, ◌+◌, ◌-◌, ◌<◌, ◌≤◌, Bool, true, false, cond, List, [], ◌∷◌, map, length, get_or, take, is_some, sym, refl, ap, ◌∙◌, subst, ap₂, inl, inr, arith}
 use Rattle.std.specs.List.Sorted.{IsPermutation}
-use Rattle.std.proofs.lemmas.Bool.{true≢false}
 use Rattle.boxes.specs.declared.grid_box.GridBox.{GridBox}
 use Rattle.boxes.specs.declared.keys.Keys.{Keys}
 use Rattle.boxes.specs.declared.space.Space.{Space}
@@ -9,7 +8,7 @@ use Rattle.boxes.specs.declared.survey.Survey.{Survey}
 use Rattle.boxes.specs.Cuts.{Path, In}
 use Rattle.boxes.specs.Directories.{directories, distinct, ends}
 use Rattle.boxes.specs.GridBoxes.{box_of, IsBox}
-use Rattle.boxes.specs.KeyLists.{way_of, ways_on}
+use Rattle.boxes.specs.KeyLists.{way_of}
 use Rattle.boxes.specs.Fitting.{directories_from}
 use Rattle.boxes.specs.Leaves.{leaves}
 use Rattle.boxes.specs.Points.{lows}

@@ -1,10 +1,9 @@
 -- The survey of a box that is halved, in the terms of its halves.
-use Rattle.std.proofs.Common.{◌≡◌, ℕ, suc, ◌+◌, ◌-◌, ◌^◌, ◌<◌, ◌≤◌, Bool, true, false, cond, ◌⊎◌, List, [], ◌∷◌, ◌++◌, map, length, get_or, take, drop, is_some, Some, None, Option, sym, refl, ap, ◌∙◌, subst, ap₂, subst₂, inl, inr, append-nil, arith, pow_mono, rules}
+use Rattle.std.proofs.Common.{◌≡◌, ℕ, ◌+◌, ◌-◌, ◌<◌, ◌≤◌, Bool, true, false, cond, List, [], ◌∷◌, ◌++◌, map, length, get_or, take, drop, is_some, Some, None, Option, sym, refl, ap, ◌∙◌, subst, ap₂, subst₂, inl, inr, append-nil, arith, pow_mono}
 use borrow.Rule.Slice.PartMut.{put_mid, post_of}
 use Rattle.std.specs.List.Sorted.{IsPermutation}
-use Rattle.std.specs.List.{AllByRecursion as All}
 use Rattle.std.proofs.ByRecursion.{All-take, All-drop, all_shuffled}
-use Rattle.std.proofs.lemmas.List.{length-append, length-drop, length-map, length-take, take-append-drop, take_all, drop_all, drop_at, take_at}
+use Rattle.std.proofs.lemmas.List.{length-append, length-map, length-take, take-append-drop, take_all, drop_all, drop_at, take_at}
 use Rattle.std.proofs.lemmas.List.Sorted.{IsPermutation-trans}
 use Rattle.std.proofs.lemmas.Bool.{true≢false}
 use Rattle.boxes.specs.declared.grid_box.GridBox.{GridBox}
@@ -24,7 +23,7 @@ use Rattle.boxes.specs.Spaces.{widths_of, order_of}
 use Rattle.boxes.specs.Surveys.{leaves_in, ends_in, keeps_in, directories_in, Found, Surveyed, Noted, Added}
 use Rattle.boxes.proofs.HalfLeaves.{both, leaves_parted}
 use Rattle.boxes.proofs.Halvings.{cuts_bound, half_level}
-use Rattle.boxes.proofs.OfBoxes.{box_long, low_key}
+use Rattle.boxes.proofs.OfBoxes.{low_key}
 use Rattle.boxes.proofs.Shuffles.{shuffled_append}
 use Rattle.boxes.proofs.Walks.{keeps_one, ends_self, found_joined, directory_alone, number_open, room_lower, room_upper, noted_shut, noted_open}
 

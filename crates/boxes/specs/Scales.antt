@@ -1,5 +1,5 @@
 -- The lower ends of a box in each key, as lists.
-use Rattle.std.specs.Prelude.{◌≡◌, ℕ, ◌<◌, Bool, true, false, List, [], map, length, Some, None, Option, slice_index_or}
+use Rattle.std.specs.Prelude.{◌≡◌, ℕ, ◌<◌, true, false, List, [], map, length, Some, None, Option, slice_index_or}
 use Rattle.boxes.specs.declared.scales.Scales.{Scales}
 use Rattle.boxes.specs.Directories.{limits}
 use Rattle.boxes.specs.LowerEnds.{ends_of}

@@ -1,5 +1,5 @@
 -- What a walk over the halves of a box finds in it. The box is b, of level l, in the space s; boxes in it are given as seen from it, by the halves taken from it on.
-use Rattle.std.specs.Prelude.{◌≡◌, ℕ, ◌+◌, ◌-◌, ◌<◌, ◌≤◌, Bool, true, false, cond, ◌⊎◌, List, [], ◌∷◌, ◌++◌, map, length, take, Some, None, Option, slice_index, slice_set}
+use Rattle.std.specs.Prelude.{◌≡◌, ℕ, ◌+◌, ◌-◌, ◌<◌, ◌≤◌, Bool, true, false, cond, ◌⊎◌, List, [], ◌++◌, map, length, take, Some, None, Option, slice_index, slice_set}
 use Rattle.boxes.specs.declared.keys.Keys.{Keys}
 use Rattle.boxes.specs.declared.scales.Scales.{Scales}
 use Rattle.boxes.specs.declared.space.Space.{Space}

@@ -1,4 +1,4 @@
-use Rattle.std.proofs.Common.{◌<◌, ◌≤◌, length, get_or, arith}
+use Rattle.std.proofs.Common.{get_or, arith}
 use Rattle.boxes.proofs.Bounds.{boundaries_more, number_small}
 use Rattle.boxes.proofs.limits.boundaries_of.Goals as goal
 

@@ -1,4 +1,4 @@
-use Rattle.std.proofs.Common.{◌≡◌, ℕ, ◌*◌, get_or, sym, ap, ◌∙◌, arith}
+use Rattle.std.proofs.Common.{◌*◌, get_or, sym, ap, ◌∙◌, arith}
 use Rattle.boxes.proofs.Bounds.{cells_more, cells_fit}
 use Rattle.boxes.proofs.limits.cells_of.Goals as goal
 

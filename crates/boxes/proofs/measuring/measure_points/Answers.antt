@@ -12,10 +12,10 @@ use Rattle.boxes.proofs.measuring.measure_points.Goals as goal
 pub survey-found-requires : goal.survey-found-requires
 survey-found-requires c =
     let s = c.args.space.now in
-    let e = c.whole.ensures.0 in (
-      subst (λ (t : Space). Fitting t c.args.points.now) (sym e) (points_fit s c.args.points.now c.requires),
-      omega (arith, ap (λ (t : Space). t.keys) e, s.allowed.0, s.wide),
-    )
+    let e = c.whole.ensures.0 in (record {
+      fitting = subst (λ (t : Space). Fitting t c.args.points.now) (sym e) (points_fit s c.args.points.now c.requires);
+      key_lt_keys = omega (arith, ap (λ (t : Space). t.keys) e, s.allowed.0, s.wide);
+    })
 
 pub returns-then-room-found : goal.returns-then-room-found
 returns-then-room-found c =
@@ -34,10 +34,10 @@ root_counts-counts-requires c =
     let s = c.args.space.now in
     let ps = c.args.points.now in
     let qs = c.survey-found.new.points in
-    let total = directory_total s c.args.capacity ps c.whole.result c.whole.ensures c.survey-found.result c.survey-found.ensures.found in (
-      fitting_shuffled s c.args.capacity ps qs c.survey-found.ensures.same (points_fit s ps c.requires),
-      omega (arith, total, c.if-room-found.false, ap length (directories_shuffled s c.args.capacity ps qs c.survey-found.ensures.same)),
-    )
+    let total = directory_total s c.args.capacity ps c.whole.result c.whole.ensures c.survey-found.result c.survey-found.ensures.found in (record {
+      fitting = fitting_shuffled s c.args.capacity ps qs c.survey-found.ensures.same (points_fit s ps c.requires);
+      points_in_bounds = omega (arith, total, c.if-room-found.false, ap length (directories_shuffled s c.args.capacity ps qs c.survey-found.ensures.same));
+    })
 
 pub overflow_add-result-2 : goal.overflow_add-result-2
 overflow_add-result-2 c =

@@ -1,4 +1,4 @@
-use Rattle.std.proofs.Common.{◌≡◌, ℕ, length, sym, ap, ◌∙◌, arith}
+use Rattle.std.proofs.Common.{length, sym, ap, ◌∙◌, arith}
 use Rattle.std.proofs.lemmas.List.{length-set}
 use Rattle.std.proofs.lemmas.List.Sorted.{IsPermutation-refl, IsPermutation-trans}
 use Rattle.boxes.specs.Directories.{ends}
@@ -14,11 +14,11 @@ pub root_ends-requires : goal.root_ends-requires
 root_ends-requires c =
     let s = c.args.space.now in
     let ps = c.args.points.now in
-    let inv = c.loop-key.invariant in (
-      fitting_shuffled s c.args.capacity ps c.loop-key.points inv.1 c.requires.0,
-      c.loop-key-test.true,
-      omega (arith, c.requires.1, c.loop-key.auto.room, ap length (directories_shuffled s c.args.capacity ps c.loop-key.points inv.1)),
-    )
+    let inv = c.loop-key.invariant in (record {
+      fitting = fitting_shuffled s c.args.capacity ps c.loop-key.points inv.1 c.requires.fitting;
+      key_lt_keys = c.loop-key-test.true;
+      points_in_bounds = omega (arith, c.requires.points_in_bounds, c.loop-key.auto.room, ap length (directories_shuffled s c.args.capacity ps c.loop-key.points inv.1));
+    })
 
 pub loop-key-preserved : goal.loop-key-preserved
 loop-key-preserved c =

@@ -15,12 +15,12 @@ loop-i-init c = (IsPermutation-refl c.args.points.now, omega arith, (λ i d h. a
 pub is_in_upper-requires : goal.is_in_upper-requires
 is_in_upper-requires c =
     let p = c.index-points-i.result in
-    let s = c.args.inner.now.space.now in (
-      c.requires.0,
-      ap length c.as_slice.ensures ∙ p.long
-          ∙ fitting_at s c.loop-i.points c.loop-i.i p (all_shuffled (λ (q : Keys). q.count ≡ s.keys) c.args.points.now c.loop-i.points c.loop-i.invariant.0 c.requires.1)
-          (omega (arith, c.loop-i-test.true, c.loop-i.auto.points)) c.index-points-i.is,
-    )
+    let s = c.args.inner.now.space.now in (record {
+      level_lt_depth = c.requires.level_lt_depth;
+      point_len = ap length c.as_slice.ensures ∙ p.long
+          ∙ fitting_at s c.loop-i.points c.loop-i.i p (all_shuffled (λ (q : Keys). q.count ≡ s.keys) c.args.points.now c.loop-i.points c.loop-i.invariant.0 c.requires.fitting)
+          (omega (arith, c.loop-i-test.true, c.loop-i.auto.points)) c.index-points-i.is;
+    })
 
 pub loop-i-preserved : goal.loop-i-preserved
 loop-i-preserved c =

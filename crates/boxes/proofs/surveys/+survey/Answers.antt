@@ -1,4 +1,4 @@
-use Rattle.std.proofs.Common.{◌≡◌, ◌-◌, ◌<◌, true, false, [], ◌∷◌, length, take, drop, sym, refl, ap, ◌∙◌, subst, arith}
+use Rattle.std.proofs.Common.{◌≡◌, ◌-◌, ◌<◌, true, false, [], ◌∷◌, take, drop, sym, refl, ap, ◌∙◌, subst, arith}
 use Rattle.std.specs.List.Sorted.{IsPermutation}
 use Rattle.std.proofs.lemmas.List.Sorted.{IsPermutation-refl}
 use Rattle.boxes.specs.declared.space.Space.{Space}
@@ -41,7 +41,7 @@ survey-lower-requires t c =
       upper_points = refl;
     } in (
       omega (arith, c.decreases, half_falls g lo false c.half_unchecked-lower_half.ensures k),
-      (lower_fits halves c.requires.0, omega (arith, c.requires.1, ap (λ (u : Space). u.keys) c.half_unchecked-lower_half.ensures.0)),
+      (lower_fits halves c.requires.fitting, omega (arith, c.requires.key_lt_keys, ap (λ (u : Space). u.keys) c.half_unchecked-lower_half.ensures.0)),
     )
 
 pub survey-upper-requires : goal.survey-upper-requires
@@ -54,7 +54,7 @@ survey-upper-requires t c =
     let k : g.level < g.space.now.depth = omega (arith, c.if-inner.false, g.deep) in
     let halves = halving g c.half_unchecked-lower_half.result c.half_unchecked-upper_half.result c.args.capacity c.args.points.now qs walked r c.if-inner.false (omega (arith, c.if-points-capacity.false)) c.part-cut.ensures c.half_unchecked-lower_half.ensures c.half_unchecked-upper_half.ensures c.survey-lower.auto.points in (
       omega (arith, c.decreases, half_falls g up true c.half_unchecked-upper_half.ensures k),
-      (upper_fits halves c.requires.0, omega (arith, c.requires.1, ap (λ (u : Space). u.keys) c.half_unchecked-upper_half.ensures.0)),
+      (upper_fits halves c.requires.fitting, omega (arith, c.requires.key_lt_keys, ap (λ (u : Space). u.keys) c.half_unchecked-upper_half.ensures.0)),
     )
 
 pub overflow_add-leaf_boxes : goal.overflow_add-leaf_boxes
@@ -88,7 +88,7 @@ returns-then-is_some t c =
       same = subst (IsPermutation c.args.points.now) (sym (parts_back qs walked r c.part-cut.ensures.within c.survey-lower.auto.points c.survey-upper.new.points))
           (both_shuffled halves walked c.survey-upper.new.points c.survey-lower.ensures.same c.survey-upper.ensures.same);
       found = surveyed_shut halves x y fx fy o j some y.noted;
-      notes = λ room. notes_shut halves x y fx fy o j c.args.key c.requires.1 c.args.room.now c.survey-lower.new.room c.survey-upper.new.room c.args.noted
+      notes = λ room. notes_shut halves x y fx fy o j c.args.key c.requires.key_lt_keys c.args.room.now c.survey-lower.new.room c.survey-upper.new.room c.args.noted
           c.survey-lower.ensures.notes c.survey-upper.ensures.notes c.survey-lower.auto.room c.survey-upper.auto.room room some;
     }
 
@@ -123,7 +123,7 @@ returns t c =
       same = subst (IsPermutation c.args.points.now) (sym (parts_back qs walked r c.part-cut.ensures.within c.survey-lower.auto.points c.survey-upper.new.points))
           (both_shuffled halves walked c.survey-upper.new.points c.survey-lower.ensures.same c.survey-upper.ensures.same);
       found = surveyed_open halves x y fx fy o j none c.note-noted-2.result;
-      notes = λ room. notes_open halves x y fx fy o j c.args.key c.requires.1 c.args.room.now c.survey-lower.new.room c.survey-upper.new.room c.args.noted
+      notes = λ room. notes_open halves x y fx fy o j c.args.key c.requires.key_lt_keys c.args.room.now c.survey-lower.new.room c.survey-upper.new.room c.args.noted
           c.survey-lower.ensures.notes c.survey-upper.ensures.notes c.survey-lower.auto.room c.survey-upper.auto.room room none
           c.note-noted.new.room c.note-noted-2.new.room c.note-noted.result c.note-noted-2.result c.is_some-2.result c.is_some-3.result c.is_some-2.ensures c.is_some-3.ensures
           c.note-noted.ensures c.note-noted-2.ensures;

@@ -6,5 +6,5 @@ use Rattle.boxes.specs.Spaces.{widths_of, order_of}
 use Rattle.boxes.proofs.grid_box.GridBox.around.Given as goal
 
 abbrev pub invariant-loop-step : goal.invariant-loop-step
-invariant-loop-step l = (l.inner.level ≡ l.-step) × (l.inner.space.now ≡ l.space)
-    × (box_of l.inner ≡ box_at (widths_of l.space) (order_of l.space) l.-step l.point)
+invariant-loop-step l = (l.inner.level ≡ l._step) × (l.inner.space.now ≡ l.space)
+    × (box_of l.inner ≡ box_at (widths_of l.space) (order_of l.space) l._step l.point)

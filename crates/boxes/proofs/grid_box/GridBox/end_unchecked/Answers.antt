@@ -1,4 +1,4 @@
-use Rattle.std.proofs.Common.{◌≡◌, ◌+◌, get_or, ap, ◌∙◌, arith}
+use Rattle.std.proofs.Common.{◌+◌, get_or, ap, ◌∙◌, arith}
 use Rattle.boxes.proofs.OfBoxes.{bits_narrow, end_fits, end_is, end_shl}
 use Rattle.boxes.proofs.grid_box.GridBox.end_unchecked.Goals as goal
 

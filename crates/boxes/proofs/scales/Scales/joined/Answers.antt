@@ -1,4 +1,4 @@
-use Rattle.std.proofs.Common.{◌≡◌, ◌<◌, length, ap, ◌∙◌, subst, arith}
+use Rattle.std.proofs.Common.{length, ap, ◌∙◌, arith}
 use Rattle.boxes.proofs.OfScales.{joined_at, joined_more}
 use Rattle.boxes.proofs.scales.Scales.joined.Goals as goal
 
