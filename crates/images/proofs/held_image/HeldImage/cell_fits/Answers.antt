@@ -26,31 +26,31 @@ bounds-self-next g c =
     let d = c.args.self.now in
     let i = c.args.key in
     let m = c.args.m in
-    let l : i < length (scales_in d) = omega (arith, keys_in d, c.requires.1) in
+    let l : i < length (scales_in d) = omega (arith, keys_in d, c.requires.key_lt_keys) in
     let e = next_is (scales_in d) i m c.cells_from.result c.digit-j.result c.next_cell-next.result c.scale-scale.result.now l c.cells_from.ensures.product c.digit-j.ensures c.scale-scale.ensures c.next_cell-next.ensures in
-    omega (arith, neighbour_below c.args.inner.now d c.requires.0 i m c.requires.1 c.requires.2 c.next_cell-next.result e, d.small)
+    omega (arith, neighbour_below c.args.inner.now d c.requires.keys_value i m c.requires.key_lt_keys c.requires.m_bound c.next_cell-next.result e, d.small)
 
 pub bounds-self-next-2 : goal.bounds-self-next-2
 bounds-self-next-2 g c =
     let d = c.args.self.now in
     let i = c.args.key in
     let m = c.args.m in
-    let l : i < length (scales_in d) = omega (arith, keys_in d, c.requires.1) in
+    let l : i < length (scales_in d) = omega (arith, keys_in d, c.requires.key_lt_keys) in
     let e = next_is (scales_in d) i m c.cells_from.result c.digit-j.result c.next_cell-next.result c.scale-scale.result.now l c.cells_from.ensures.product c.digit-j.ensures c.scale-scale.ensures c.next_cell-next.ensures in
-    omega (arith, neighbour_below c.args.inner.now d c.requires.0 i m c.requires.1 c.requires.2 c.next_cell-next.result e, d.small)
+    omega (arith, neighbour_below c.args.inner.now d c.requires.keys_value i m c.requires.key_lt_keys c.requires.m_bound c.next_cell-next.result e, d.small)
 
 pub key_fits-requires : goal.key_fits-requires
 key_fits-requires g c =
     let d = c.args.self.now in
     let g = c.args.inner.now in
     let i = c.args.key in
-    let l : i < length (scales_in d) = omega (arith, keys_in d, c.requires.1) in (
-      omega (arith, digit_le (scales_in d) c.args.m i c.requires.2 l, c.digit-j.ensures, ap length c.scale-scale.ensures),
-      omega (arith, end_fits g i (omega (arith, c.requires.0, c.requires.1)), pow_pos (get_or g.bits i 0)),
-      c.span_of-span.ensures.some,
-      c.span_of-span.ensures.most,
-      c.span_of-next_span.ensures.some,
-    )
+    let l : i < length (scales_in d) = omega (arith, keys_in d, c.requires.key_lt_keys) in (record {
+      j_in_bounds = omega (arith, digit_le (scales_in d) c.args.m i c.requires.m_bound l, c.digit-j.ensures, ap length c.scale-scale.ensures);
+      own_bound = omega (arith, end_fits g i (omega (arith, c.requires.keys_value, c.requires.key_lt_keys)), pow_pos (get_or g.bits i 0));
+      span_nonzero = c.span_of-span.ensures.some;
+      span_bound = c.span_of-span.ensures.most;
+      next_span_nonzero = c.span_of-next_span.ensures.some;
+    })
 
 pub returns : goal.returns
 returns g c =
@@ -58,7 +58,7 @@ returns g c =
     let g = c.args.inner.now in
     let i = c.args.key in
     let m = c.args.m in
-    let l : i < length (scales_in d) = omega (arith, keys_in d, c.requires.1) in
+    let l : i < length (scales_in d) = omega (arith, keys_in d, c.requires.key_lt_keys) in
     let e = next_is (scales_in d) i m c.cells_from.result c.digit-j.result c.next_cell-next.result c.scale-scale.result.now l c.cells_from.ensures.product c.digit-j.ensures c.scale-scale.ensures c.next_cell-next.ensures in
     let own = get_or g.low i 0 in
     let top = c.in-Some.top in
@@ -67,5 +67,5 @@ returns g c =
     let a = c.are_alike.result in
     let k = c.key_fits.ensures ∙ ap (λ x. key_ok c.scale-scale.result.now own top x s s' a) c.digit-j.ensures
     ∙ ap (λ (us : List ℕ). key_ok us own top (digit (scales_in d) i m) s s' a) c.scale-scale.ensures in
-    decided g d c.requires.0 i m c.requires.1 c.requires.2 own top s s' c.next_cell-next.result a c.key_fits.result
+    decided g d c.requires.keys_value i m c.requires.key_lt_keys c.requires.m_bound own top s s' c.next_cell-next.result a c.key_fits.result
     refl c.in-Some.ensures.1 c.span_of-span.ensures.span e c.span_of-next_span.ensures.span c.are_alike.ensures k

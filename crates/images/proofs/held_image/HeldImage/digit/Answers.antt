@@ -13,4 +13,4 @@ returns g c =
     let m = c.args.m in
     let more : k + 1 ≡ suc k = omega arith in
     ap₂ (λ a b. m % a / b) c.cells_from.ensures.product (c.cells_from-2.ensures.product ∙ ap (λ n. intervals (drop n (scales_in d))) more)
-    ∙ digit_by (scales_in d) k m (omega (arith, keys_in d, c.requires.0)) c.requires.1
+    ∙ digit_by (scales_in d) k m (omega (arith, keys_in d, c.requires.key_lt_keys)) c.requires.m_bound

@@ -16,16 +16,16 @@ loop-m-init g c = (length-replicate {A = Bool} g.row.ENDS false, marked_none c.a
 pub begins-requires : goal.begins-requires
 begins-requires g c =
     let d = c.args.self.now in
-    let l : c.args.key < length (scales_in d) = omega (arith, keys_in d, c.requires.1) in
+    let l : c.args.key < length (scales_in d) = omega (arith, keys_in d, c.requires.key_lt_keys) in
     let below = digit_le (scales_in d) c.loop-m.m c.args.key (omega (arith, c.cells_from-m-end.ensures.product, c.loop-m-test.true)) l in
-    (search rules, (c.requires.0, (c.requires.1, (omega (arith, below, c.digit-interval.ensures), omega (arith, c.cells_from-m-end.ensures.product, c.loop-m-test.true)))))
+    (search rules, (c.requires.keys_value, (c.requires.key_lt_keys, (omega (arith, below, c.digit-interval.ensures), omega (arith, c.cells_from-m-end.ensures.product, c.loop-m-test.true)))))
 
 pub bounds-used-interval : goal.bounds-used-interval
 bounds-used-interval g c =
     let d = c.args.self.now in
-    let l : c.args.key < length (scales_in d) = omega (arith, keys_in d, c.requires.1) in
+    let l : c.args.key < length (scales_in d) = omega (arith, keys_in d, c.requires.key_lt_keys) in
     let below = digit_le (scales_in d) c.loop-m.m c.args.key (omega (arith, c.cells_from-m-end.ensures.product, c.loop-m-test.true)) l in
-    omega (arith, below, c.digit-interval.ensures, scale_long d c.args.key c.requires.1, count_most d c.args.key c.requires.1)
+    omega (arith, below, c.digit-interval.ensures, scale_long d c.args.key c.requires.key_lt_keys, count_most d c.args.key c.requires.key_lt_keys)
 
 pub loop-m-preserved : goal.loop-m-preserved
 loop-m-preserved g c =
@@ -34,14 +34,14 @@ loop-m-preserved g c =
     let i = c.args.key in
     let m = c.loop-m.m in
     let old = c.loop-m.used in
-    let l : i < length (scales_in d) = omega (arith, keys_in d, c.requires.1) in
+    let l : i < length (scales_in d) = omega (arith, keys_in d, c.requires.key_lt_keys) in
     let below = digit_le (scales_in d) m i (omega (arith, c.cells_from-m-end.ensures.product, c.loop-m-test.true)) l in
     let k = c.digit-interval.result - 1 in
     let here = c.digit-interval.ensures in
     elim c.if-interval-gt0.branch [
       | then-interval-gt0+then-begins w ↦
           let e = w.used-is in
-          let h : k < length old = omega (arith, below, here, scale_long d i c.requires.1, count_most d i c.requires.1, c.loop-m.invariant.0, w.if-interval-gt0.true) in (
+          let h : k < length old = omega (arith, below, here, scale_long d i c.requires.key_lt_keys, count_most d i c.requires.key_lt_keys, c.loop-m.invariant.0, w.if-interval-gt0.true) in (
             ap length e ∙ length-set old k true ∙ c.loop-m.invariant.0,
             subst (λ (us : List Bool). Marked b d i (m + 1) us) (sym e) (marked_more b d i m k old h (w.begins.ensures.0 w.if-begins.true) c.loop-m.invariant.1),
           )

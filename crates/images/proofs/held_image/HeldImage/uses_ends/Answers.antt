@@ -6,7 +6,7 @@ use Rattle.images.proofs.held_image.HeldImage.uses_ends.Goals as goal
 pub bounds-used-j : goal.bounds-used-j
 bounds-used-j g c =
     let d = c.args.self.now in
-    omega (arith, ap length c.scale-count.ensures, scale_long d c.args.key c.requires.1, count_most d c.args.key c.requires.1)
+    omega (arith, ap length c.scale-count.ensures, scale_long d c.args.key c.requires.key_lt_keys, count_most d c.args.key c.requires.key_lt_keys)
 
 pub loop-j-preserved : goal.loop-j-preserved
 loop-j-preserved g c =
