@@ -11,8 +11,8 @@ returns g c =
     let n = c.args.count in
     let xs = c.args.numbers.now in
     let ys = c.loop-i.first in
-    let lx = length-take-le n xs c.requires.1 in
-    let ly = length-take-le n ys (omega (arith, c.loop-i.invariant.0, c.requires.0)) in
+    let lx = length-take-le n xs c.requires.count_in_bounds in
+    let ly = length-take-le n ys (omega (arith, c.loop-i.invariant.0, c.requires.count_bound)) in
     record {
       long = c.loop-i.invariant.0;
       same = ext_get_or 0 (take n ys) (take n xs) (ly ∙ sym lx)

@@ -14,7 +14,7 @@ pub cells_of-count-requires : goal.cells_of-count-requires
 cells_of-count-requires g c = let d = c.args.image.now in omega (arith, cells_in d, d.small, d.most_cells)
 
 pub corner_of-corner-requires : goal.corner_of-corner-requires
-corner_of-corner-requires g c = let d = c.args.image.now in (omega (arith, d.wide, d.few), room_in d, c.cells_of-count.ensures ∙ cells_in d, c.loop-number-test.true)
+corner_of-corner-requires g c = let d = c.args.image.now in (record { counts_len_bound = omega (arith, d.wide, d.few); counts_in_bounds = room_in d; cells_value = c.cells_of-count.ensures ∙ cells_in d; number_lt_cells = c.loop-number-test.true })
 
 pub offset_bounds-cells-number : goal.offset_bounds-cells-number
 offset_bounds-cells-number g c = let d = c.args.image.now in omega (arith, cells_in d, d.small, d.most_cells, c.cells_of-count.ensures, c.loop-number-test.true)

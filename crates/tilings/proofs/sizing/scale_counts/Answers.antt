@@ -13,7 +13,7 @@ pub size_of-requires : goal.size_of-requires
 size_of-requires c =
     let s = c.args.inner.now.space.now in
     let r = c.in-Some.ensures in
-    (omega (arith, r.2), product_most (take s.keys c.in-Some.scales.counts) (omega (arith, r.1, s.few)) r.2)
+    (record { counts_bound = omega (arith, r.2); counts_bound_2 = product_most (take s.keys c.in-Some.scales.counts) (omega (arith, r.1, s.few)) r.2 })
 
 pub returns : goal.returns
 returns c = λ on.

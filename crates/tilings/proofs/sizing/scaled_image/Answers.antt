@@ -13,7 +13,7 @@ pub size_of-size-requires : goal.size_of-size-requires
 size_of-size-requires g c =
     let s = c.args.inner.now.space.now in
     let r = c.in-Some.ensures in
-    (omega (arith, r.2), product_most (take s.keys c.in-Some.scales.counts) (omega (arith, r.1, s.few)) r.2)
+    (record { counts_bound = omega (arith, r.2); counts_bound_2 = product_most (take s.keys c.in-Some.scales.counts) (omega (arith, r.1, s.few)) r.2 })
 
 pub returns-then-not-fits_into : goal.returns-then-not-fits_into
 returns-then-not-fits_into g c = λ fits.
@@ -41,7 +41,7 @@ invariant_of-result g c =
     let few : total cs ≤ g.row.ENDS = omega (arith, c.size_of-size.ensures.boundaries, (c.fits_into.ensures.0 c.if-not-fits_into.false).0) in
     let long : length ys ≡ g.row.ENDS = c.front-ends.ensures.long in
     let cells : intervals (parted cs ys) ≤ g.row.CELLS = omega (arith, intervals_parted cs ys (omega arith), c.size_of-size.ensures.cells, (c.fits_into.ensures.0 c.if-not-fits_into.false).1) in
-    (c.requires.0, (c.requires.1, (b.space.now.few, (r.1, (long, (few, (cells, (rising_again b ts cs xs ys room r.3 same, tt))))))))
+    record { most_ends = c.requires.bound; most_cells = c.requires.bound_2; few = b.space.now.few; wide = r.1; long = long; room = few; small = cells; rising = rising_again b ts cs xs ys room r.3 same }
 
 pub returns : goal.returns
 returns g c =
@@ -56,8 +56,8 @@ returns g c =
     let none : Named = record { page = 0; level = 0 } in
     let long = length-replicate {A = Named} g.row.CELLS none in (
       (
-        c.requires.0,
-        c.requires.1,
+        c.requires.bound,
+        c.requires.bound_2,
         omega (arith, numbers_in b ts cs xs ys room r.3, c.size_of-size.ensures.boundaries, (c.fits_into.ensures.0 c.if-not-fits_into.false).0),
         omega (arith, cells_made b ts cs xs ys room r.3, c.size_of-size.ensures.cells, (c.fits_into.ensures.0 c.if-not-fits_into.false).1),
       ),

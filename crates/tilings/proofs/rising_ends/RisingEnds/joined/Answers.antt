@@ -7,7 +7,7 @@ pub slice_bounds-insert_end-end : goal.slice_bounds-insert_end-end
 slice_bounds-insert_end-end c = sym c.loop-i.invariant.3
 
 pub insert_end-requires : goal.insert_end-requires
-insert_end-requires c = (omega (arith, c.loop-i.invariant.2, c.loop-i.invariant.3), c.loop-i.invariant.1)
+insert_end-requires c = (record { len_in_bounds = omega (arith, c.loop-i.invariant.2, c.loop-i.invariant.3); rising = c.loop-i.invariant.1 })
 
 pub returns-in_default : goal.returns-in_default
 returns-in_default c =
@@ -21,7 +21,7 @@ loop-i-preserved c =
     c.in-Some.next c.insert_end.new.ends c.insert_end.auto.ends c.in-Some.ensures.0 c.in-Some.ensures.1
 
 pub invariant_of-result : goal.invariant_of-result
-invariant_of-result c = (c.loop-i.invariant.2, (c.loop-i.invariant.3, (c.loop-i.invariant.1, tt)))
+invariant_of-result c = record { few = c.loop-i.invariant.2; long = c.loop-i.invariant.3; rising = c.loop-i.invariant.1 }
 
 pub returns : goal.returns
 returns c = join_all c.args.self.now c.args.more.now c.loop-i.i c.loop-i.count c.loop-i.ends c.loop-i-test.false c.loop-i.invariant
