@@ -13,7 +13,7 @@ pub returns-in_err-image : goal.returns-in_err-image
 returns-in_err-image c =
     let g = c.args.inner.now in
     let s = g.space.now in
-    subst (λ (o : Option (HeldImage 60 80)). DirectoryRead g c.args.pages c.args.page.now o) (sym c.from-residual.ensures)
+    subst (λ (o : Option (HeldImage 60 80)). DirectoryRead g c.args.pages c.args.page.now o) (sym c.from_residual.ensures)
     (λ img p. none_read (widths_of s) (order_of s) (box_of g) c.args.pages 60 80 s.keys g.level 512 0x44 0x49 c.args.page.now s.few s.wide (box_long g) c.told-page
     c.in_err-image.ensures img p.lawful p.laid_out)
 

@@ -19,7 +19,7 @@ returns-then-not-has_heading g c = λ img sound laid.
 pub returns-in_err-counts : goal.returns-in_err-counts
 returns-in_err-counts g c =
     subst (λ (o : Option (HeldImage g.row.ENDS g.row.CELLS)). ImageRead (get_or c.args.mark 0 0) (get_or c.args.mark 1 0) c.args.keys c.args.level c.args.bytes.now o)
-    (sym c.from-residual.ensures)
+    (sym c.from_residual.ensures)
     (λ img sound laid. counts_stand (get_or c.args.mark 0 0) (get_or c.args.mark 1 0) c.args.keys c.args.level g.row.ENDS g.row.CELLS c.args.bytes.now c.requires.few img sound laid
     c.in_err-counts.ensures)
 
@@ -70,28 +70,7 @@ invariant_of-result g c =
     let t : total (take k cs) ≡ c.ends_in-end_count.result = sym c.ends_in-end_count.ensures in
     let m : cells_of (take k cs) ≡ c.cells_in-cell_count.result = sym c.cells_in-cell_count.ensures in
     let room : c.ends_in-end_count.result ≤ length xs = omega (arith, c.read_ends-ends.ensures.long) in
-    let e = intervals_are (take k cs) xs c.ends_in-end_count.result c.cells_in-cell_count.result t m room in (
-      c.requires.most_ends,
-      (
-        c.requires.most_cells,
-        (
-          c.requires.few,
-          (
-            length-take-le k cs (omega (arith, counted.four_keys, c.requires.few)),
-            (
-              c.read_ends-ends.ensures.long,
-              (
-                omega (arith, t),
-                (
-                  omega (arith, e),
-                  (c.ends_rise.ensures.0 c.if-not-ends_rise.false, tt),
-                ),
-              ),
-            ),
-          ),
-        ),
-      ),
-    )
+    let e = intervals_are (take k cs) xs c.ends_in-end_count.result c.cells_in-cell_count.result t m room in record { most_ends = c.requires.most_ends; most_cells = c.requires.most_cells; few = c.requires.few; wide = length-take-le k cs (omega (arith, counted.four_keys, c.requires.few)); long = c.read_ends-ends.ensures.long; room = omega (arith, t); small = omega (arith, e); rising = c.ends_rise.ensures.0 c.if-not-ends_rise.false }
 
 pub returns : goal.returns
 returns g c =

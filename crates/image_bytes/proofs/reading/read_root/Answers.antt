@@ -14,7 +14,7 @@ use Rattle.image_bytes.proofs.reading.read_root.Goals as goal
 pub returns-in_err-image : goal.returns-in_err-image
 returns-in_err-image c =
     let s = c.args.space.now in
-    subst (λ (o : Option (HeldImage 250 1024)). RootRead s c.args.pages c.args.bytes.now o) (sym c.from-residual.ensures)
+    subst (λ (o : Option (HeldImage 250 1024)). RootRead s c.args.pages c.args.bytes.now o) (sym c.from_residual.ensures)
     (λ img p. none_read (widths_of s) (order_of s) [] c.args.pages 250 1024 s.keys 0 4096 0x52 0x54 c.args.bytes.now s.few s.wide refl c.told-bytes
     c.in_err-image.ensures img p.lawful p.laid_out)
 
