@@ -111,7 +111,7 @@ same_keys ks js e = subst (λ us. slice_cmp nat_cmp ks us ≡ Equal) e (itself (
 -- of equal keys, the later row is not before
 pub rows_rise : (x y : Reading) → x.0 ≡ y.0 → less y x ≡ false → x.1 ≤ y.1
 rows_rise x y e h = elim (cases_lt y.1 x.1) [
-  | inl l ↦ absurd (true≢false (sym (ap (λ k. is_lt (ordering_then k (nat_cmp y.1 x.1))) (same_keys y.0 x.0 (sym e)) ∙ ap is_lt (sym (nat_cmp_total.says y.1 x.1 Less l))) ∙ h))
+  | inl l ↦ absurd (true≢false (sym (ap (λ k. is_lt (ordering_then k (nat_cmp y.1 x.1))) (same_keys y.0 x.0 (sym e)) ∙ ap is_lt (sym (nat_cmp_is y.1 x.1 Less l))) ∙ h))
   | inr g ↦ g
 ]
 
