@@ -1,9 +1,9 @@
 -- Readings: those of the rows, each row once, and their order.
-use Rattle.std.proofs.Common.{◌≡◌, ℕ, zero, suc, ◌+◌, ◌<◌, ◌≤◌, Bool, true, false, cond, eqb, List, [], ◌∷◌, length, get_or, sum_by, Ordering, Less, Equal, Greater, sym, refl, ap, ◌∙◌, subst, inl, inr, true≢false, arith, ext_get_or}
+use Rattle.std.proofs.Common.{◌≡◌, ℕ, zero, suc, ◌+◌, ◌<◌, ◌≤◌, Bool, false, cond, eqb, List, [], ◌∷◌, length, get_or, sum_by, Ordering, Less, Equal, Greater, sym, refl, ap, ◌∙◌, subst, inl, inr, true≢false, arith, ext_get_or}
 use Rattle.std.specs.Cmp.Lexicographic.{slice_cmp, lists_total}
 use Rattle.std.specs.Ordering.{is_lt, is_gt, ordering_reverse, ordering_then, nat_cmp}
 use Rattle.std.specs.List.{ContainsAt as Has, AllByRecursion as All}
-use Rattle.std.specs.Cmp.{nat_cmp_total}
+use Rattle.std.specs.Cmp.{nat_cmp_total, nat_cmp_is}
 use Rattle.std.proofs.ByRecursion.{has_append_right}
 use Rattle.std.proofs.lemmas.Map.Lookups.{exact_bytes}
 use Rattle.std.proofs.lemmas.List.Sums.{sum_by-cons}
@@ -111,7 +111,7 @@ same_keys ks js e = subst (λ us. slice_cmp nat_cmp ks us ≡ Equal) e (itself (
 -- of equal keys, the later row is not before
 pub rows_rise : (x y : Reading) → x.0 ≡ y.0 → less y x ≡ false → x.1 ≤ y.1
 rows_rise x y e h = elim (cases_lt y.1 x.1) [
-  | inl l ↦ absurd (true≢false (sym (ap (λ k. is_lt (ordering_then k (nat_cmp y.1 x.1))) (same_keys y.0 x.0 (sym e)) ∙ ap is_lt (sym (nat_cmp_total.says y.1 x.1 Less l))) ∙ h))
+  | inl l ↦ absurd (true≢false (sym (ap (λ k. is_lt (ordering_then k (nat_cmp y.1 x.1))) (same_keys y.0 x.0 (sym e)) ∙ ap is_lt (sym (nat_cmp_is y.1 x.1 Less l))) ∙ h))
   | inr g ↦ g
 ]
 

@@ -25,7 +25,7 @@ pub(crate) fn judge_rows(
 {
     let mut verdicts = read_rows(heap, space, text, from)?;
     let mut readings = readings_of(heap, verdicts.as_slice())?;
-    readings.sort();
+    readings.sort_unstable();
     mark_repeats(readings.as_slice(), verdicts.as_mut_slice());
     Ok(verdicts)
 }

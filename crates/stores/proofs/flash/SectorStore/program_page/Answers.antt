@@ -6,9 +6,9 @@ pub returns : goal.returns
 returns c =
     let m = c.args.self.now.memory.now in
     let b = c.args.bytes.now in
-    let r = programmed_alone b c.told-bytes c.requires.1 c.program.ensures.programmed in
+    let r = programmed_alone b c.told-bytes c.requires.programs c.program.ensures.programmed in
     record {
-      stored = sector_replaced m _ c.args.page b r c.told-bytes c.requires.0;
+      stored = sector_replaced m _ c.args.page b r c.told-bytes c.requires.page_bound;
       replaced = r;
       lent = c.program.ensures.lent;
       unworn = c.program.ensures.kept;

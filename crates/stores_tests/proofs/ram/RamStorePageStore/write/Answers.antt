@@ -6,4 +6,4 @@ use Rattle.stores_tests.proofs.ram.RamStorePageStore.write.Goals as goal
 pub invariant_of-self : goal.invariant_of-self
 invariant_of-self c =
     let s = c.args.self.now in
-    (length-set s.pages _ _ ∙ s.four, (whole_set s.pages _ _ s.whole c.told-bytes, tt))
+    record { four = length-set s.pages _ _ ∙ s.four; whole = whole_set s.pages _ _ s.whole c.told-bytes }
