@@ -1,7 +1,7 @@
 -- The records in a box and in a range, by the pages that stand for a set.
 use Rattle.std.proofs.Common.{◌≡◌, ℕ, zero, suc, ◌+◌, ◌<◌, ◌≤◌, Bool, true, false, ◌&&◌, List, [], ◌∷◌, length, take, Some, Decides, filter, sym, refl, ap, ◌∙◌, subst, ap₂, subst₂, inl, inr, arith}
 use Rattle.std.proofs.lemmas.Bool.{and_parts, cases_lt}
-use Rattle.boxes.specs.Cuts.{Path, In, half, around, same}
+use Rattle.boxes.specs.Cuts.{Path, In, half, around}
 use Rattle.boxes.specs.GridBoxes.{lows_of, box_of, IsBox}
 use Rattle.boxes.specs.KeyRanges.{lowest_of, highest_of}
 use Rattle.boxes.specs.Leaves.{tally, Same}

@@ -13,7 +13,7 @@ returns-in_err-named c =
     let mem = c.args.memory.now in
     let ks = c.args.keys.now in
     let laws = c.laws_stand.ensures in
-    subst (λ o. DirectorySite mem ks o) (sym c.from-residual-in_err-named.ensures) (λ p. root_keys laws.boxes laws.order mem ks p c.in_err-named.ensures)
+    subst (λ o. DirectorySite mem ks o) (sym c.from_residual-in_err-named.ensures) (λ p. root_keys laws.boxes laws.order mem ks p c.in_err-named.ensures)
 
 pub returns-in_err-inner : goal.returns-in_err-inner
 returns-in_err-inner c =
@@ -21,7 +21,7 @@ returns-in_err-inner c =
     let ks = c.args.keys.now in
     let laws = c.laws_stand.ensures in
     let level = ap (λ (t : Tile). t.level) c.in_ok-named.ensures.1 in
-    subst (λ o. DirectorySite mem ks o) (sym c.from-residual-in_err-inner.ensures)
+    subst (λ o. DirectorySite mem ks o) (sym c.from_residual-in_err-inner.ensures)
     (λ p. c.in_err-inner.ensures (omega (arith, level, root_level laws.boxes laws.order mem ks p), p))
 
 pub returns : goal.returns

@@ -9,6 +9,6 @@ invariant_of-result c =
     let s = c.args.space in
     let n = c.args.pages in
     let cell : Tile = record { page = 8; level = 0 } in
-    let law = (c.image_laws_stand.ensures.plain (widths_of s) (order_of s) n 250 1024 8 (omega arith) (omega arith) (omega (arith, c.requires.0))).0 in
+    let law = (c.image_laws_stand.ensures.plain (widths_of s) (order_of s) n 250 1024 8 (omega arith) (omega arith) (omega (arith, c.requires.le_pages))).0 in
     let same = c.in-Some.ensures.4 ∙ ap (λ (k : ℕ). one_cell k cell) (sym s.wide) in
-    (c.requires.1, (omega (arith, c.requires.0), (∣ subst (λ (i : Image). Lawful (widths_of s) (order_of s) [] n 250 1024 i) (sym same) law ∣₁, tt)))
+    record { most = c.requires.pages_bound; enough = omega (arith, c.requires.le_pages); lawful = ∣ subst (λ (i : Image). Lawful (widths_of s) (order_of s) [] n 250 1024 i) (sym same) law ∣₁ }
