@@ -1,6 +1,6 @@
 -- The words of a text, one after another.
 use Rattle.std.proofs.Common.{◌≡◌, ℕ, zero, suc, ◌+◌, ◌-◌, ◌<◌, ◌≤◌, cond, leb, ◌≢◌, ◌⊎◌, List, [], ◌∷◌, map, length, get_or, take, drop, set, decimal, sym, refl, ap, ◌∙◌, subst, ap₂, inl, inr, arith}
-use Rattle.std.specs.List.{AllByRecursion as All}
+use Rattle.std.specs.List.{AllByRecursion}
 use Rattle.std.proofs.lemmas.Fmt.{decimal_injective}
 use Rattle.std.proofs.ByRecursion.{All-get_or}
 use Rattle.std.proofs.lemmas.List.{drop-drop, get_or-drop, get_or-map, get_or-set_same, get_or-set_other, length-drop, length-map, length-set}
@@ -89,7 +89,7 @@ all_zero (suc (suc (suc (suc (suc (suc (suc (suc j)))))))) = refl
 
 -- words that each write a number write a list of numbers
 pub collected : (m : ℕ) (ws : List (List ℕ)) (f : ℕ → ℕ) → ((j : ℕ) → j < length ws → (n : ℕ) × Writes (get_or ws j []) n × (j < m → f j ≡ n))
-    → (ns : List ℕ) × (ws ≡ map decimal ns) × All (λ n. n ≤ 4294967295) ns × (length ns ≡ length ws) × ((j : ℕ) → j < length ws → j < m → f j ≡ get_or ns j 0)
+    → (ns : List ℕ) × (ws ≡ map decimal ns) × AllByRecursion (λ n. n ≤ 4294967295) ns × (length ns ≡ length ws) × ((j : ℕ) → j < length ws → j < m → f j ≡ get_or ns j 0)
 collected m [] f w = ([], refl, tt, refl, λ j h. absurd (omega arith))
 collected m (u ∷ ws) f w =
     let first = w 0 (omega arith) in
@@ -106,13 +106,13 @@ collected m (u ∷ ws) f w =
     placed n ns a b (suc j) h l = b j (omega arith) (omega arith)
 
 -- a word that writes no number is none of a list of numbers
-pub unwritten : (ws : List (List ℕ)) (j : ℕ) (ns : List ℕ) → j < length ws → ws ≡ map decimal ns → All (λ n. n ≤ 4294967295) ns → Writes (get_or ws j []) (get_or ns j 0)
+pub unwritten : (ws : List (List ℕ)) (j : ℕ) (ns : List ℕ) → j < length ws → ws ≡ map decimal ns → AllByRecursion (λ n. n ≤ 4294967295) ns → Writes (get_or ws j []) (get_or ns j 0)
 unwritten ws j ns h e a =
     let l : j < length ns = omega (arith, ap length e, length-map ns decimal) in
     (All-get_or (λ n. n ≤ 4294967295) ns j 0 l a, ap (λ us. get_or us j []) e ∙ get_or-map decimal ns j 0 [] l)
 
 -- a line writes one list of numbers
-pub one_reading : (ms ns : List ℕ) → map decimal ms ≡ map decimal ns → All (λ n. n ≤ 4294967295) ms → All (λ n. n ≤ 4294967295) ns → ms ≡ ns
+pub one_reading : (ms ns : List ℕ) → map decimal ms ≡ map decimal ns → AllByRecursion (λ n. n ≤ 4294967295) ms → AllByRecursion (λ n. n ≤ 4294967295) ns → ms ≡ ns
 one_reading [] [] e a b = refl
 one_reading [] (n ∷ ns) e a b = let z : ◌≡◌ {A = ℕ} 0 1 = cc in absurd (omega arith)
 one_reading (m ∷ ms) [] e a b = let z : ◌≡◌ {A = ℕ} 0 1 = cc in absurd (omega arith)

@@ -1,6 +1,6 @@
 -- Whole numbers as they are written: in decimal, without leading zeros.
 use Rattle.std.specs.Prelude.{◌≡◌, ℕ, ◌+◌, ◌-◌, ◌*◌, ◌<◌, ◌≤◌, true, false, List, [], ◌∷◌, map, length, Some, None, decimal, Option, slice_index}
-use Rattle.std.specs.List.{AllByRecursion as All}
+use Rattle.std.specs.List.{AllByRecursion}
 use Rattle.std.specs.Str.{all_ascii_digits}
 use Rattle.numbers.specs.declared.Row.{Row}
 use Rattle.numbers.specs.Words.{words}
@@ -33,7 +33,7 @@ WholeRead bs r = WholeUpTo 4294967295 bs r
 
 -- the line writes these numbers, each below 2 to the 32, with single marks between them
 abbrev pub WrittenAt : ℕ → List ℕ → List ℕ → Type 0
-WrittenAt mark line ns = (words mark line ≡ map decimal ns) × All (λ n. n ≤ 4294967295) ns
+WrittenAt mark line ns = (words mark line ≡ map decimal ns) × AllByRecursion (λ n. n ≤ 4294967295) ns
 
 -- the numbers that the line writes, and no others: how many there are and the first eight, zero where there is none; or it writes no numbers
 abbrev pub RowReadAt : ℕ → List ℕ → Option Row → Type 0
