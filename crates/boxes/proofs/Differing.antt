@@ -1,6 +1,6 @@
 -- How many different numbers a rising list has, and lists with the same numbers.
 use Rattle.std.proofs.Common.{◌≡◌, ℕ, zero, suc, ◌+◌, ◌-◌, ◌<◌, ◌≤◌, List, [], ◌∷◌, ◌++◌, length, get_or, take, sym, refl, ap, ◌∙◌, subst, inl, inr, arith}
-use Rattle.std.specs.List.{range_with_len, AllByRecursion as All}
+use Rattle.std.specs.List.{range_with_len, AllByRecursion}
 use Rattle.std.specs.List.Sorted.{IsPermutation, IsNonDecreasing}
 use Rattle.std.proofs.lemmas.List.FromFn.{length-range_with_len, get_or-range_with_len}
 use Rattle.std.proofs.ByRecursion.{all_shuffled}
@@ -57,14 +57,14 @@ module _ (xs : List ℕ) (up : IsNonDecreasing xs) (i : ℕ) (h : i < length xs)
       ∙ old_number (take i xs) (get_or xs i 0) (subst (λ x. In x (take i xs)) (get_or-take i xs (i - 1) 0 l ∙ e) (place_in (take i xs) (i - 1) (omega (arith, length-take i xs))))
 
 -- the same numbers in another order
-all_in : {A : Type 0} (P : A → Type 0) (x : A) (ys : List A) → All P ys → In x ys → P x
+all_in : {A : Type 0} (P : A → Type 0) (x : A) (ys : List A) → AllByRecursion P ys → In x ys → P x
 all_in P x [] a i = absurd i
 all_in P x (y ∷ ys) a (inl e) = subst P (sym e) a.0
 all_in P x (y ∷ ys) a (inr i) = all_in P x ys a.1 i
 
-itself : {A : Type 0} (us ys : List A) → All (λ y. In y (us ++ ys)) ys
+itself : {A : Type 0} (us ys : List A) → AllByRecursion (λ y. In y (us ++ ys)) ys
 itself us [] = tt
-itself us (y ∷ ys) = (in_right y us (y ∷ ys) (inl refl), subst (λ vs. All (λ z. In z vs) ys) (append_one us y ys) (itself (us ++ y ∷ []) ys))
+itself us (y ∷ ys) = (in_right y us (y ∷ ys) (inl refl), subst (λ vs. AllByRecursion (λ z. In z vs) ys) (append_one us y ys) (itself (us ++ y ∷ []) ys))
   where
     append_one : {B : Type 0} (vs : List B) (z : B) (zs : List B) → (vs ++ z ∷ []) ++ zs ≡ vs ++ (z ∷ zs)
     append_one [] z zs = refl

@@ -1,7 +1,7 @@
 -- The leaf boxes of the points in a box: itself, or those in its halves.
 use Rattle.std.proofs.Common.{◌≡◌, ℕ, zero, suc, ◌+◌, ◌-◌, ◌<◌, ◌≤◌, Bool, true, false, ◌&&◌, leb, List, [], ◌∷◌, ◌++◌, map, length, get_or, take, drop, sym, refl, ap, ◌∙◌, subst, ap₂, arith}
 use mathlib.Core.Path.{fun_ext}
-use Rattle.std.specs.List.{AllByRecursion as All}
+use Rattle.std.specs.List.{AllByRecursion}
 use Rattle.std.proofs.ByRecursion.{All-weaker}
 use Rattle.std.proofs.lemmas.List.{drop_more, length-map, take-append-drop}
 use Rattle.std.proofs.lemmas.Bool.{le-leb, lt-leb}
@@ -42,13 +42,13 @@ module _ (s : Space) (l c : ℕ) (ps : List Keys) where
   leaf_point e = let z : s.depth - l ≡ 0 = omega arith in ap (λ n. leaves n c (ways_on s l ps)) z
 
 -- points that stand by their halves
-pub front_all : (P : Keys → Type 0) (qs : List Keys) (r : ℕ) → ((i : ℕ) (d : Keys) → i < r → P (get_or qs i d)) → r ≤ length qs → All P (take r qs)
+pub front_all : (P : Keys → Type 0) (qs : List Keys) (r : ℕ) → ((i : ℕ) (d : Keys) → i < r → P (get_or qs i d)) → r ≤ length qs → AllByRecursion P (take r qs)
 front_all P [] zero w h = tt
 front_all P [] (suc r) w h = absurd (omega arith)
 front_all P (q ∷ qs) zero w h = tt
 front_all P (q ∷ qs) (suc r) w h = (w 0 q (omega arith), front_all P qs r (λ i d k. w (suc i) d (omega arith)) (omega arith))
 
-pub back_all : (P : Keys → Type 0) (qs : List Keys) (r : ℕ) → ((i : ℕ) (d : Keys) → r ≤ i → i < length qs → P (get_or qs i d)) → All P (drop r qs)
+pub back_all : (P : Keys → Type 0) (qs : List Keys) (r : ℕ) → ((i : ℕ) (d : Keys) → r ≤ i → i < length qs → P (get_or qs i d)) → AllByRecursion P (drop r qs)
 back_all P [] zero w = tt
 back_all P [] (suc r) w = tt
 back_all P (q ∷ qs) zero w = (w 0 q (omega arith) (omega arith), back_all P qs zero (λ i d k h. w (suc i) d (omega arith) (omega arith)))
@@ -70,10 +70,10 @@ module _ (s : Space) (l : ℕ) (k : l < s.depth) where
   )
 
   module _ (ps qs : List Keys) (r : ℕ) (p : Parted s l ps qs r) where
-    lowers : All (λ q. side s l q ≡ false) (take r qs)
+    lowers : AllByRecursion (λ q. side s l q ≡ false) (take r qs)
     lowers = front_all (λ q. side s l q ≡ false) qs r p.lower p.within
 
-    uppers : All (λ q. side s l q ≡ true) (drop r qs)
+    uppers : AllByRecursion (λ q. side s l q ≡ true) (drop r qs)
     uppers = back_all (λ q. side s l q ≡ true) qs r p.upper
 
     split_tally : (f : Keys → Bool) → tally f ps ≡ tally f (take r qs) + tally f (drop r qs)

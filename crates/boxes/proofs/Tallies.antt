@@ -1,7 +1,7 @@
 -- How many pass a test: over lists that are put together, and over the same elements in another order.
 use Rattle.std.proofs.Common.{◌≡◌, suc, ◌+◌, Bool, true, false, cond, List, [], ◌∷◌, ◌++◌, map, sum_by, sym, refl, ap, ◌∙◌, ap₂, arith}
 use Rattle.std.specs.List.Sorted.{IsPermutation}
-use Rattle.std.specs.List.{AllByRecursion as All}
+use Rattle.std.specs.List.{AllByRecursion}
 use Rattle.std.proofs.lemmas.List.Sorted.{sum_by-IsPermutation}
 use Rattle.std.proofs.lemmas.List.Sums.{sum_by-cons}
 use Rattle.boxes.specs.Leaves.{tally, Same}
@@ -30,10 +30,10 @@ tally_map f g [] = refl
 tally_map f g (x ∷ xs) = ap (λ n. cond (f (g x)) (suc n) n) (tally_map f g xs)
 
 -- tests that agree on the list
-pub tally_agree : {A : Type 0} (f g : A → Bool) (xs : List A) → All (λ x. f x ≡ g x) xs → tally f xs ≡ tally g xs
+pub tally_agree : {A : Type 0} (f g : A → Bool) (xs : List A) → AllByRecursion (λ x. f x ≡ g x) xs → tally f xs ≡ tally g xs
 tally_agree f g [] h = refl
 tally_agree f g (x ∷ xs) h = ap₂ (λ t n. cond t (suc n) n) h.0 (tally_agree f g xs h.1)
 
-pub tally_none : {A : Type 0} (f : A → Bool) (xs : List A) → All (λ x. f x ≡ false) xs → tally f xs ≡ 0
+pub tally_none : {A : Type 0} (f : A → Bool) (xs : List A) → AllByRecursion (λ x. f x ≡ false) xs → tally f xs ≡ 0
 tally_none f [] h = refl
 tally_none f (x ∷ xs) h = ap (λ t. cond t (suc (tally f xs)) (tally f xs)) h.0 ∙ tally_none f xs h.1

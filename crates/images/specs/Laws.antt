@@ -1,6 +1,6 @@
 -- The laws of images, in any halving order that names each key as often as its width.
 use Rattle.std.specs.Prelude.{◌≡◌, ℕ, ◌<◌, ◌≤◌, List, [], length}
-use Rattle.std.specs.List.{AllByRecursion as All}
+use Rattle.std.specs.List.{AllByRecursion}
 use Rattle.boxes.specs.Cuts.{Path, In}
 use Rattle.boxes.specs.Leaves.{Distinct}
 use Rattle.boxes.specs.Points.{Names, Point, lows}
@@ -63,7 +63,7 @@ ChecksStand = (ws ord : List ℕ) → Names ws ord → (b : Path) → length b �
 
 -- the boxes of different points have images, for a capacity of at least 1
 abbrev pub PagesStand : Type 0
-PagesStand = (ws ord : List ℕ) → Names ws ord → (c : ℕ) → 1 ≤ c → (hs : List (List ℕ)) → All (Point ws) hs → Distinct hs → (n : ℕ) (page : Path → ℕ) → PageLaws ws ord c hs n page
+PagesStand = (ws ord : List ℕ) → Names ws ord → (c : ℕ) → 1 ≤ c → (hs : List (List ℕ)) → AllByRecursion (Point ws) hs → Distinct hs → (n : ℕ) (page : Path → ℕ) → PageLaws ws ord c hs n page
 
 -- an image of one cell is a lawful image of the whole space, where its page and its limits allow it
 abbrev pub OneCellStands : Type 0

@@ -64,7 +64,7 @@ fn hex_digit(byte: u8) -> Option<u8>
 // The page that begins with these bytes, and is zero behind them.
 fn page_of(hex: &[u8]) -> Option<[u8; 512]> {
     let mut page = [0; 512];
-    if hex == b"-" {
+    if hex == b"-".as_slice() {
         return Some(page);
     }
     if hex.len() % 2 != 0 || hex.len() > 1024 {

@@ -1,6 +1,6 @@
 -- The two pages of a point, in pages that stand for the records held.
 use Rattle.std.proofs.Common.{◌≡◌, ℕ, ◌<◌, ◌≤◌, List, [], ◌∷◌, length, get_or, Some, None, Ok, Option, Result, sym, refl, ap, ◌∙◌, subst, subst₂, inl, inr, arith}
-use Rattle.std.specs.List.{AllByRecursion as All}
+use Rattle.std.specs.List.{AllByRecursion}
 use Rattle.std.proofs.lemmas.List.{length-take-le}
 use Rattle.boxes.specs.Cuts.{In}
 use Rattle.boxes.specs.Points.{Names, Point, path}
@@ -33,7 +33,7 @@ length_box ws ord ps l k = length-take-le l (path ws ord ps) (omega (arith, leng
 pub keys_are : (m : Meaning) (r ks : List ℕ) → m.read r ≡ Some ks → keys_of m r ≡ ks
 keys_are m r ks e = ap keys_or e
 
-pub all_points : (m : Meaning) → Lawful m → (held : List (List ℕ)) → ((r : List ℕ) → In r held → (ks : List ℕ) × (m.read r ≡ Some ks)) → All (Point m.widths) (points m held)
+pub all_points : (m : Meaning) → Lawful m → (held : List (List ℕ)) → ((r : List ℕ) → In r held → (ks : List ℕ) × (m.read r ≡ Some ks)) → AllByRecursion (Point m.widths) (points m held)
 all_points m law [] w = tt
 all_points m law (r ∷ held) w =
     let k = w r (inl refl) in

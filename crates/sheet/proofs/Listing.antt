@@ -2,7 +2,7 @@
 use Rattle.std.proofs.Common.{◌≡◌, ℕ, suc, ◌+◌, ◌<◌, ◌≤◌, List, [], ◌∷◌, ◌++◌, length, get_or, drop, sym, refl, ap, ◌∙◌, subst, inl, inr, append_assoc, append-nil, arith}
 use Rattle.std.proofs.lemmas.List.{drop_more, drop_all, length_push, get_or_at, get_or_append_left}
 use Rattle.std.proofs.lemmas.Bool.{cases_lt}
-use Rattle.std.specs.List.{AllByRecursion as All}
+use Rattle.std.specs.List.{AllByRecursion}
 use Rattle.boxes.specs.declared.keys.Keys.{Keys}
 use Rattle.boxes.specs.declared.space.Space.{Space}
 use Rattle.boxes.specs.KeyLists.{keys_of}
@@ -95,12 +95,12 @@ rows_more s rows vs us v row rest e old new eu =
     )
 
 -- the points kept are points
-pub kept_points : (ws : List ℕ) (rows : List (List ℕ)) (m : ℕ) (vs : List Verdict) → ((i : ℕ) → i < length vs → Becomes ws rows (m + i) (get_or vs i NoPoint)) → All (λ p. Point ws (keys_of p)) (points_of vs)
+pub kept_points : (ws : List ℕ) (rows : List (List ℕ)) (m : ℕ) (vs : List Verdict) → ((i : ℕ) → i < length vs → Becomes ws rows (m + i) (get_or vs i NoPoint)) → AllByRecursion (λ p. Point ws (keys_of p)) (points_of vs)
 kept_points ws rows m [] h = tt
 kept_points ws rows m (v ∷ vs) h =
     go v (h 0 (omega arith)) (kept_points ws rows (suc m) vs (λ i k. subst (λ j. Becomes ws rows j (get_or vs i NoPoint)) (omega arith) (h (suc i) (omega arith))))
   where
-    go : (v : Verdict) → Becomes ws rows (m + 0) v → All (λ p. Point ws (keys_of p)) (points_of vs) → All (λ p. Point ws (keys_of p)) (points_of (v ∷ vs))
+    go : (v : Verdict) → Becomes ws rows (m + 0) v → AllByRecursion (λ p. Point ws (keys_of p)) (points_of vs) → AllByRecursion (λ p. Point ws (keys_of p)) (points_of (v ∷ vs))
     go (Kept p) b rest = (b.0.1, rest)
     go NoPoint b rest = rest
     go Repeated b rest = rest

@@ -2,7 +2,7 @@
 use Rattle.std.proofs.Common.{◌≡◌, ℕ, zero, suc, ◌+◌, ◌<◌, ◌≤◌, Bool, false, cond, eqb, List, [], ◌∷◌, length, get_or, sum_by, Ordering, Less, Equal, Greater, sym, refl, ap, ◌∙◌, subst, inl, inr, true≢false, arith, ext_get_or}
 use Rattle.std.specs.Cmp.Lexicographic.{slice_cmp, lists_total}
 use Rattle.std.specs.Ordering.{is_lt, is_gt, ordering_reverse, ordering_then, nat_cmp}
-use Rattle.std.specs.List.{ContainsAt as Has, AllByRecursion as All}
+use Rattle.std.specs.List.{ContainsAt, AllByRecursion}
 use Rattle.std.specs.Cmp.{nat_cmp_total, nat_cmp_is}
 use Rattle.std.proofs.ByRecursion.{has_append_right}
 use Rattle.std.proofs.lemmas.Map.Lookups.{exact_bytes}
@@ -29,25 +29,25 @@ four_apart ks js e l f = ext_get_or 0 ks js e (λ i h. sym (four_at ks i (omega 
 abbrev pub OfRow : (ℕ → Verdict) → ℕ → Reading → Type 0
 OfRow f n s = (s.1 < n) × ((p : Keys) × (f s.1 ≡ Kept p) × (s.0 ≡ four (keys_of p)))
 
-pub of_rows : (f : ℕ → Verdict) (m n : ℕ) (vs : List Verdict) → n + length vs ≤ m → ((i : ℕ) → i < length vs → f (n + i) ≡ get_or vs i NoPoint) → All (OfRow f m) (readings_of n vs)
+pub of_rows : (f : ℕ → Verdict) (m n : ℕ) (vs : List Verdict) → n + length vs ≤ m → ((i : ℕ) → i < length vs → f (n + i) ≡ get_or vs i NoPoint) → AllByRecursion (OfRow f m) (readings_of n vs)
 of_rows f m n [] l h = tt
 of_rows f m n (v ∷ vs) l h =
     go v (ap f (omega arith) ∙ h 0 (omega arith)) (of_rows f m (suc n) vs (omega arith) (λ i k. ap f (omega arith) ∙ h (suc i) (omega arith)))
   where
-    go : (v : Verdict) → f n ≡ v → All (OfRow f m) (readings_of (suc n) vs) → All (OfRow f m) (readings_of n (v ∷ vs))
+    go : (v : Verdict) → f n ≡ v → AllByRecursion (OfRow f m) (readings_of (suc n) vs) → AllByRecursion (OfRow f m) (readings_of n (v ∷ vs))
     go (Kept p) e rest = ((omega arith, (p, e, refl)), rest)
     go NoPoint e rest = rest
     go Repeated e rest = rest
 
 -- and each row with a point has one
-pub has_row : (n : ℕ) (vs : List Verdict) (i : ℕ) (p : Keys) → i < length vs → get_or vs i NoPoint ≡ Kept p → Has (readings_of n vs) (four (keys_of p), n + i)
+pub has_row : (n : ℕ) (vs : List Verdict) (i : ℕ) (p : Keys) → i < length vs → get_or vs i NoPoint ≡ Kept p → ContainsAt (readings_of n vs) (four (keys_of p), n + i)
 has_row n [] i p l e = absurd (omega arith)
-has_row n (v ∷ vs) zero p l e = subst (λ v. Has (readings_of n (v ∷ vs)) (four (keys_of p), n + 0)) (sym e) (0, omega arith, λ d. ap (λ j. (four (keys_of p), j)) (omega arith))
+has_row n (v ∷ vs) zero p l e = subst (λ v. ContainsAt (readings_of n (v ∷ vs)) (four (keys_of p), n + 0)) (sym e) (0, omega arith, λ d. ap (λ j. (four (keys_of p), j)) (omega arith))
 has_row n (v ∷ vs) (suc i) p l e =
-    let rest = subst (λ j. Has (readings_of (suc n) vs) (four (keys_of p), j)) (omega arith) (has_row (suc n) vs i p (omega arith) e) in
+    let rest = subst (λ j. ContainsAt (readings_of (suc n) vs) (four (keys_of p), j)) (omega arith) (has_row (suc n) vs i p (omega arith) e) in
     go v rest
   where
-    go : (v : Verdict) → Has (readings_of (suc n) vs) (four (keys_of p), n + suc i) → Has (readings_of n (v ∷ vs)) (four (keys_of p), n + suc i)
+    go : (v : Verdict) → ContainsAt (readings_of (suc n) vs) (four (keys_of p), n + suc i) → ContainsAt (readings_of n (v ∷ vs)) (four (keys_of p), n + suc i)
     go (Kept q) h = has_append_right ((four (keys_of q), n) ∷ []) (readings_of (suc n) vs) (four (keys_of p), n + suc i) h
     go NoPoint h = h
     go Repeated h = h

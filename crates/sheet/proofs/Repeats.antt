@@ -1,7 +1,7 @@
 -- The rows that repeat a point: among readings in order, those whose keys are the keys of the one before.
 use Rattle.std.proofs.Common.{◌≡◌, ℕ, suc, ◌+◌, ◌-◌, ◌<◌, ◌≤◌, false, cond, ◌≢◌, ◌⊎◌, List, [], length, get_or, set, sym, refl, ap, ◌∙◌, subst, inl, inr, arith}
 use Rattle.std.specs.List.Sorted.{IsPermutation, IsSortedWithin}
-use Rattle.std.specs.List.{AllByRecursion as All}
+use Rattle.std.specs.List.{AllByRecursion}
 use Rattle.std.specs.Cmp.{nat_cmp_total, then_total, on_total}
 use Rattle.std.proofs.lemmas.List.MinMax.{ranks_by}
 use Rattle.std.proofs.ByRecursion.{All-get_or, All-weaker, all_shuffled, has_shuffled}
@@ -82,7 +82,7 @@ module _ (s : Space) (rows : List (List ℕ)) (vs : List Verdict) (ss : List Rea
   abbrev ws : List ℕ
   ws = widths_of s
 
-  all_of_rows : All (OfRow (λ i. get_or vs i NoPoint) (length vs)) ss
+  all_of_rows : AllByRecursion (OfRow (λ i. get_or vs i NoPoint) (length vs)) ss
   all_of_rows = all_shuffled (OfRow (λ i. get_or vs i NoPoint) (length vs)) (readings_of 0 vs) ss mixed (of_rows (λ i. get_or vs i NoPoint) (length vs) 0 vs (omega arith) (λ i h. ap (λ j. get_or vs j NoPoint) (omega arith)))
 
   pub in_rows : InRows (length vs) ss

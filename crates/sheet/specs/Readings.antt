@@ -1,6 +1,6 @@
 -- Finding the rows that repeat a point: readings, sorted by keys and then by rows.
 use Rattle.std.specs.Prelude.{◌≡◌, ℕ, suc, ◌<◌, ◌⊎◌, List, [], ◌∷◌, length, get_or, slice_index, slice_index_or}
-use Rattle.std.specs.List.{AllByRecursion as All}
+use Rattle.std.specs.List.{AllByRecursion}
 use Rattle.boxes.specs.KeyLists.{keys_of}
 use Rattle.sheet.specs.declared.verdict.Verdict.{Verdict}
 use Rattle.sheet.specs.declared.verdict.Verdict.TheVariants.{Kept, NoPoint, Repeated}
@@ -26,7 +26,7 @@ no_reading = ([], 0)
 
 -- each reading is of one of n rows
 abbrev pub InRows : ℕ → List Reading → Type 0
-InRows n ss = All (λ (s : Reading). s.1 < n) ss
+InRows n ss = AllByRecursion (λ (s : Reading). s.1 < n) ss
 
 -- among the first n readings, one of row r has the keys of the one before it
 abbrev pub Again : ℕ → List Reading → ℕ → Type 0
