@@ -5,8 +5,8 @@ use Rattle.std.proofs.lemmas.Nat.{pow_pos, mul-le}
 use Rattle.boxes.specs.Cuts.{Path, around, cuts}
 use Rattle.boxes.specs.Points.{Names, Point, zeros}
 use Rattle.boxes.specs.Space.{box_at}
-use Rattle.boxes.specs.Leaves.{few, leaves}
-use Rattle.boxes.specs.Directories.{boundaries, cells, ends, limits, fits, Directory, directories}
+use Rattle.boxes.specs.Leaves.{few}
+use Rattle.boxes.specs.Directories.{boundaries, cells, ends, fits, Directory, directories}
 use Rattle.boxes.specs.Laws.{BoxesStand, OrderStands}
 use Rattle.kinds.specs.Meaning.{Meaning, Lawful}
 use Rattle.images.specs.Directory.{Tile, tile_at, RootBytes, DirectoryPage}
