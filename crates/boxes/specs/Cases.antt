@@ -1,5 +1,5 @@
 -- Worked figures.
-use Rattle.std.specs.Prelude.{◌≡◌, ℕ, zero, suc, Bool, true, false, List, [], ◌∷◌, map, length, get_or, slice_index_or}
+use Rattle.std.specs.Prelude.{◌≡◌, ℕ, zero, suc, Bool, true, false, List, [], ◌∷◌, map, length, slice_index_or}
 use Rattle.boxes.specs.declared.figures.Figures.{Figures}
 use Rattle.boxes.specs.Cuts.{Path}
 use Rattle.boxes.specs.Directories.{cells, ends}
@@ -68,4 +68,4 @@ pub record Cases : Type 0 where
   pub case9 : figures U 1 (upto 58 0) ≡ fig 62 2 72 1 2 true
   pub case10 : figures X 1 ((0 ∷ 0 ∷ 0 ∷ []) ∷ (0 ∷ 0 ∷ 1 ∷ []) ∷ []) ≡ fig 61 51 120 50 5508 false
   -- key 0 is halved at levels 15 and 33, key 2 at level 16
-  pub case11 : get_or (order D) 15 9 ∷ slice_index_or (order D) 16 9 ∷ slice_index_or (order D) 33 9 ∷ [] ≡ 0 ∷ 2 ∷ 0 ∷ []
+  pub case11 : slice_index_or (order D) 15 9 ∷ slice_index_or (order D) 16 9 ∷ slice_index_or (order D) 33 9 ∷ [] ≡ 0 ∷ 2 ∷ 0 ∷ []

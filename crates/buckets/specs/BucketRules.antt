@@ -1,5 +1,5 @@
 -- The rules of a bucket page by its bytes, as the check goes through them.
-use Rattle.std.specs.Prelude.{◌≡◌, ℕ, ◌+◌, ◌*◌, ◌<◌, ◌≤◌, List, Some, ◌≢◌, slice_index, slice_index_or}
+use Rattle.std.specs.Prelude.{◌≡◌, ℕ, ◌+◌, ◌*◌, ◌<◌, ◌≤◌, List, Some, ◌≢◌, slice_index}
 use Rattle.kinds.specs.Meaning.{Meaning}
 use Rattle.buckets.specs.Bucket.{record_at}
 
@@ -9,10 +9,10 @@ count_of page = slice_index page 2
 
 -- the first four bytes
 pub record Header (m : Meaning) (level : ℕ) (page : List ℕ) : Type 0 where
-  pub mark_first : slice_index_or page 0 0 ≡ 0x42
-  pub mark_second : slice_index_or page 1 0 ≡ 0x4B
+  pub mark_first : slice_index page 0 ≡ 0x42
+  pub mark_second : slice_index page 1 ≡ 0x4B
   pub few : count_of page ≤ m.capacity
-  pub named_level : slice_index_or page 3 0 ≡ level
+  pub named_level : slice_index page 3 ≡ level
 
 -- record i is a record of the kind, and its keys are as they must be
 abbrev pub Valid : Meaning → (List ℕ → Type 0) → List ℕ → ℕ → Type 0

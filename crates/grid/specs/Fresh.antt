@@ -1,5 +1,5 @@
 -- A new grid.
-use Rattle.std.specs.Prelude.{◌≡◌, ℕ, ◌≤◌, List, [], length, get_or, take, nat_lt, slice_index_or}
+use Rattle.std.specs.Prelude.{◌≡◌, ℕ, ◌≤◌, List, [], length, take, nat_lt, slice_index_or}
 use Rattle.boxes.specs.declared.space.Space.{Space}
 use Rattle.buckets.specs.Bucket.{bucket_layout}
 use Rattle.buckets.specs.PageMaps.{used}
@@ -21,6 +21,6 @@ pub record FreshMemory (s : Space) (n : ℕ) (mem : Memory) : Type 0 where
 pub record FreshPages (mem : Memory) (ps qs : List (List ℕ)) : Type 0 where
   pub as_many : length qs ≡ length ps
   pub root : joined (take 8 qs) ≡ root_layout (image_of mem.root)
-  pub directory : get_or qs 8 [] ≡ directory_layout 0 (one_cell mem.space.keys (record { page = 9; level = 0 }))
-  pub bucket : get_or qs 9 [] ≡ bucket_layout 0 []
+  pub directory : slice_index_or qs 8 [] ≡ directory_layout 0 (one_cell mem.space.keys (record { page = 9; level = 0 }))
+  pub bucket : slice_index_or qs 9 [] ≡ bucket_layout 0 []
   pub rest : (j : ℕ) → 10 ≤ j → slice_index_or qs j [] ≡ slice_index_or ps j []

@@ -1,5 +1,5 @@
 -- Images read from bytes, and the steps of it. k is the number of keys, m₀ and m₁ are the mark.
-use Rattle.std.specs.Prelude.{◌≡◌, ℕ, ◌+◌, ◌*◌, ◌≤◌, List, map, length, take, Some, None, Option, ◌≢◌, slice_index, slice_index_or}
+use Rattle.std.specs.Prelude.{◌≡◌, ℕ, ◌+◌, ◌*◌, ◌≤◌, List, map, length, take, Some, None, Option, ◌≢◌, slice_index}
 use Rattle.boxes.specs.GridBoxes.{box_of}
 use Rattle.boxes.specs.Spaces.{widths_of, order_of}
 use Rattle.boxes.specs.declared.grid_box.GridBox.{GridBox}
@@ -40,10 +40,10 @@ ImageRead m₀ m₁ k level bytes (Some d) = bytes ≡ layout (length bytes) m�
 
 -- the first 16 bytes, but for the counts of the keys that exist
 pub record Heading (m₀ m₁ k level : ℕ) (bytes : List ℕ) : Type 0 where
-  pub mark_first : slice_index_or bytes 0 0 ≡ m₀
-  pub mark_second : slice_index_or bytes 1 0 ≡ m₁
-  pub keys : slice_index_or bytes 2 0 ≡ k
-  pub named_level : slice_index_or bytes 3 0 ≡ level
+  pub mark_first : slice_index bytes 0 ≡ m₀
+  pub mark_second : slice_index bytes 1 ≡ m₁
+  pub keys : slice_index bytes 2 ≡ k
+  pub named_level : slice_index bytes 3 ≡ level
   -- the counts of the keys that do not exist, and the four bytes behind them
   pub zeros : Zeros bytes (4 + 2 * k) 16
 

@@ -1,5 +1,5 @@
 -- Finding the rows that repeat a point: readings, sorted by keys and then by rows.
-use Rattle.std.specs.Prelude.{◌≡◌, ℕ, suc, ◌<◌, ◌⊎◌, List, [], ◌∷◌, length, get_or, slice_index, slice_index_or}
+use Rattle.std.specs.Prelude.{◌≡◌, ℕ, suc, ◌<◌, ◌⊎◌, List, [], ◌∷◌, length, slice_index, slice_index_or}
 use Rattle.std.specs.List.{AllByRecursion}
 use Rattle.boxes.specs.KeyLists.{keys_of}
 use Rattle.sheet.specs.declared.verdict.Verdict.{Verdict}
@@ -30,7 +30,7 @@ InRows n ss = AllByRecursion (λ (s : Reading). s.1 < n) ss
 
 -- among the first n readings, one of row r has the keys of the one before it
 abbrev pub Again : ℕ → List Reading → ℕ → Type 0
-Again n ss r = (i : ℕ) × (suc i < n) × ((get_or ss (suc i) no_reading).1 ≡ r) × ((get_or ss i no_reading).0 ≡ (get_or ss (suc i) no_reading).0)
+Again n ss r = (i : ℕ) × (suc i < n) × ((slice_index_or ss (suc i) no_reading).1 ≡ r) × ((slice_index_or ss i no_reading).0 ≡ (slice_index_or ss (suc i) no_reading).0)
 
 -- the rows of these are marked, and no others
 abbrev pub Marked : ℕ → List Reading → List Verdict → List Verdict → Type 0
