@@ -41,6 +41,15 @@ def read(path):
         return f.read()
 
 
+def imports(text):
+    """Each import of a text: is it from a crate of this repository, its module, and the names."""
+    crates = set(os.listdir("crates"))
+    for m in IMPORT.finditer(text):
+        parts = m.group(1).split(".")
+        own = parts[0] == "Rattle" and len(parts) > 1 and parts[1] in crates
+        yield own, parts[-1], {n.strip().split(" as ")[0] for n in m.group(2).split(",")}
+
+
 def spelled(name):
     if name in ELSE:
         return ELSE[name]
@@ -53,18 +62,14 @@ def spelled(name):
 
 
 def main():
-    own_crates = set(os.listdir("crates"))
     library, made, ours, plain = set(), set(), set(), set()
     texts = {p: read(p) for p in files()}
     for path, text in texts.items():
         bare = COMMENT.sub("", text)
-        for m in IMPORT.finditer(bare):
-            parts = m.group(1).split(".")
-            own = parts[0] == "Rattle" and len(parts) > 1 and parts[1] in own_crates
-            names = {n.strip().split(" as ")[0] for n in m.group(2).split(",")}
+        for own, module, names in imports(bare):
             if not own:
                 library |= names
-            elif parts[-1] in ("Goals", "Given"):
+            elif module in ("Goals", "Given"):
                 made |= names
         plain |= set(re.findall(r"[A-Za-z][\w']*", bare))
         if path.endswith(".rt"):

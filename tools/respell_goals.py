@@ -9,7 +9,7 @@ Older kits wrote next-key-key for the call of next_key in `let key`; this one wr
 import os
 import re
 
-from respell import COMMENT, HYPHENED, IMPORT, files, is_answer, read
+from respell import COMMENT, HYPHENED, files, imports, is_answer, read
 
 MADE = ["overflow_" + o for o in ("add", "sub", "mul", "shl", "shr", "cast", "step", "neg")] + [
     "nonzero_div", "nonzero_rem", "slice_bounds", "offset_bounds", "invariant_of", "in_ok", "in_err", "in_default", "type_inv",
@@ -17,7 +17,6 @@ MADE = ["overflow_" + o for o in ("add", "sub", "mul", "shl", "shr", "cast", "st
 
 
 def main():
-    own_crates = set(os.listdir("crates"))
     names = set(MADE)
     for path in files():
         if path.endswith(".rt"):
@@ -31,11 +30,9 @@ def main():
             continue
         text = read(path)
         library = set()
-        for m in IMPORT.finditer(text):
-            parts = m.group(1).split(".")
-            own = parts[0] == "Rattle" and len(parts) > 1 and parts[1] in own_crates
-            if not own or parts[-1] not in ("Goals", "Given"):
-                library |= {n.strip().split(" as ")[0] for n in m.group(2).split(",")}
+        for own, module, imported in imports(text):
+            if not own or module not in ("Goals", "Given"):
+                library |= imported
 
         def turn(m):
             name = m.group(1)
