@@ -1,22 +1,8 @@
 -- runs of bytes that were written over
-use Rattle.std.proofs.Common.{◌≡◌, ℕ, ◌+◌, ◌<◌, ◌≤◌, List, length, get_or, set, ◌∙◌, arith, length-set, below_more}
+use Rattle.std.proofs.Common.{◌≡◌, ℕ, ◌+◌, ◌<◌, ◌≤◌, List, length, get_or, arith}
 use borrow.Rule.Slice.PartMut.{put_mid}
-use Rattle.std.proofs.lemmas.List.{places, length-append, length-take, length-drop, get_or-set_same, get_or-set_other}
+use Rattle.std.proofs.lemmas.List.{places, length-append, length-take, length-drop}
 use Rattle.stores.specs.Memory.{Rewritten}
-
--- the step of a loop that writes one byte after the other
-pub rewritten_more : {m w : List ℕ} {start n : ℕ} {f : ℕ → ℕ} (v : ℕ) → Rewritten m w start n f → start + n < length m → v ≡ f n → Rewritten m (set w (start + n) v) start (n + 1) f
-rewritten_more {m} {w} {start} {n} {f} v r lt e =
-    let l : length w ≡ length m = r.long in
-    let inside : start + n < length w = omega arith in
-    record {
-      long = length-set w (start + n) v ∙ r.long;
-      here = below_more _ _
-          (λ k h. get_or-set_other w (start + n) (start + k) v 0 (λ q. omega arith) ∙ r.here k h)
-          (get_or-set_same w (start + n) v 0 inside ∙ e);
-      before = λ k h. get_or-set_other w (start + n) k v 0 (λ q. omega arith) ∙ r.before k h;
-      after = λ k h. get_or-set_other w (start + n) k v 0 (λ q. omega arith) ∙ r.after k (omega arith);
-    }
 
 -- what `m[a..a + k].copy_from_slice(b)` leaves
 module _ (a k : ℕ) (m b : List ℕ) (fits : a + k ≤ length m) (e : length b ≡ k) where

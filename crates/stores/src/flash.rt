@@ -1,6 +1,6 @@
 // The sector store's memory, which stands for flash, in sectors of 4,096 bytes.
 // The fields are private to this file, so that `erase` and `program` are the only ways to alter it.
-ghost use Rattle.std.specs.Prelude.{◌≡◌, ◌+◌, ◌*◌, ◌/◌, ◌≤◌, length, take, drop, Decides};
+ghost use Rattle.std.specs.Prelude.{◌≡◌, ◌+◌, ◌*◌, ◌/◌, ◌≤◌, length, take, drop, ◌↔◌, IsTrue};
 ghost use Rattle.stores.specs.Flash.{Erased, Programmed, Programs, Bytes, one_more};
 
 #[derive(Drop)]
@@ -19,6 +19,7 @@ impl<'a> SectorStore<'a> {
     }
 }
 
+// That the store is over the same memory as before, and that a run of bytes lies in it, stand in each contract: they tie two values, and an invariant speaks of one.
 impl SectorStore<'_> {
     // How many times a sector was erased since the store was made, up to the greatest u32.
     pub fn erases(&self) -> u32
@@ -45,14 +46,12 @@ impl SectorStore<'_> {
     // Whether programming alone gives the new bytes.
     pub(crate) fn programs(&self, start: usize, bytes: &[u8; 512]) -> bool
         requires { start + 512 ≤ length self.now.memory.now }
-        ensures { Decides result (Programs self.now.memory.now start bytes.now) }
+        ensures { IsTrue result ↔ Programs self.now.memory.now start bytes.now }
     {
-        for i in 0..512 {
-            if self.memory[start + i] & bytes[i] != bytes[i] {
-                return false;
-            }
-        }
-        true
+        self.memory[start..start + 512]
+            .iter()
+            .zip(bytes)
+            .all(|(old, new)| *old & *new == *new)
     }
 
     // Sets one sector to FF.
@@ -63,9 +62,7 @@ impl SectorStore<'_> {
         ensures counted { self.new.erases ≡ one_more self.old.erases }
     {
         let start = 4096 * sector;
-        for i in 0..4096 {
-            self.memory[start + i] = 0xFF;
-        }
+        self.memory[start..start + 4096].fill(0xFF);
         self.erases = self.erases.saturating_add(1);
     }
 
@@ -77,8 +74,8 @@ impl SectorStore<'_> {
         ensures kept { self.new.erases ≡ self.old.erases }
         ensures bytes { Bytes bytes.now }
     {
-        for i in 0..bytes.len() {
-            self.memory[start + i] &= bytes[i];
+        for (i, byte) in bytes.iter().enumerate() {
+            self.memory[start + i] &= *byte;
         }
     }
 }

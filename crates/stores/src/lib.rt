@@ -13,7 +13,7 @@ pub mod sectors;
 pub struct NoSuchPage;
 
 impl NoSuchPage {
-    // The refusal's number.
+    // The refusal's number, for whoever is told of it.
     pub fn number(self) -> u8
         ensures { result ≡ refusal_number self }
     {
@@ -21,6 +21,7 @@ impl NoSuchPage {
     }
 }
 
+// A store's `read` and `write` test the number themselves, since what is left unchanged is told by each store in its own words.
 pub trait PageStore {
     // The pages, from page 0 on.
     ghost pages: { Self → List (List ℕ) };

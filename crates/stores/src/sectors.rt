@@ -8,6 +8,7 @@ ghost use Rattle.stores.specs.Wholes.{sector_whole};
 pub use crate::flash::SectorStore;
 use crate::{NoSuchPage, PageStore};
 
+// Each of these asks that the page is in the store: a fact of a store and a number together, so no invariant of one of them can hold it.
 impl SectorStore<'_> {
     fn load_page(&self, page: usize, buffer: &mut [u8; 512])
         requires { page < 8 * (length self.now.memory.now / 4096) }

@@ -10,7 +10,7 @@ use stores::PageStore;
 use stores::sectors::SectorStore;
 use workloads::Workload;
 
-// Runs a workload, and hands back how many of its writes the store took: all.
+// Runs a workload, and hands back how many of its writes the store took: all. A loop, since each step changes the image and the store.
 fn run(workload: Workload, store: &mut SectorStore<'_>) -> usize
     requires { length store.old.memory.now ≡ 16384 }
     ensures { result ≡ 256 }

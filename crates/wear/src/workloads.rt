@@ -29,6 +29,7 @@ impl Workload {
     ];
 
     // Makes the image that this step writes from that of the step before, and hands back the page that it goes to.
+    // One match, since a table of functions would need a name for each rule beside that of its workload.
     pub fn step(self, step: usize, image: &mut [u8; 512]) -> usize
         requires { step < 256 }
         ensures { result < 32 }

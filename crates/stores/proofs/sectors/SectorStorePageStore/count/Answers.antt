@@ -2,10 +2,7 @@ use Rattle.std.proofs.Common.{◌*◌, ◌/◌, length, arith}
 use Rattle.stores.specs.Wholes.{pages_length}
 use Rattle.stores.proofs.sectors.SectorStorePageStore.count.Goals as goal
 
-pub returns : goal.returns
-returns c =
+pub returns-clause-counted : goal.returns-clause-counted
+returns-clause-counted c =
     let m = c.args.self.now.memory.now in
-    record {
-      counted = omega (arith, pages_length (8 * (length m / 4096)) m);
-      number = omega arith;
-    }
+    omega (arith, pages_length (8 * (length m / 4096)) m)
