@@ -1,23 +1,17 @@
 -- How many different numbers a rising list has, and lists with the same numbers.
-use Rattle.std.proofs.Common.{◌≡◌, ℕ, zero, suc, ◌+◌, ◌-◌, ◌<◌, ◌≤◌, List, [], ◌∷◌, ◌++◌, length, get_or, take, sym, refl, ap, ◌∙◌, subst, inl, inr, arith}
-use Rattle.std.specs.List.{range_with_len, AllByRecursion}
+use Rattle.std.proofs.Common.{◌≡◌, ℕ, zero, suc, ◌+◌, ◌<◌, ◌≤◌, min, Bool, true, false, not, cond, ◌==◌, List, [], ◌∷◌, ◌++◌, length, get_or, drop, filter, sym, refl, ap, ◌∙◌, subst, inl, inr, arith}
+use Rattle.std.specs.List.{range_with_len, zip, AllByRecursion}
 use Rattle.std.specs.List.Sorted.{IsPermutation, IsNonDecreasing}
 use Rattle.std.proofs.lemmas.List.FromFn.{length-range_with_len, get_or-range_with_len}
 use Rattle.std.proofs.ByRecursion.{all_shuffled}
-use Rattle.std.proofs.lemmas.List.{get_or-take, length-take, take_more}
+use Rattle.std.proofs.lemmas.Bool.{eqb-false, ne_eqb}
 use Rattle.std.proofs.lemmas.List.Sorted.{IsPermutation-sym}
 use Rattle.boxes.specs.Cuts.{In}
-use Rattle.boxes.specs.Directories.{distinct}
-use Rattle.boxes.proofs.Cuts.{in_left, in_right, in_append}
-use Rattle.boxes.proofs.Distinct.{pigeon, in_distinct, distinct_in, distinct_distinct, more_distinct}
-use Rattle.boxes.proofs.Numbers.{same_number}
+use Rattle.boxes.specs.Directories.{distinct, member}
+use Rattle.boxes.proofs.Cuts.{in_right}
+use Rattle.boxes.proofs.Distinct.{pigeon, in_distinct, distinct_distinct, more_distinct}
 
--- places of a list, and what stands there
-pub in_place : (x : ℕ) (ys : List ℕ) → In x ys → (j : ℕ) × (j < length ys) × (get_or ys j 0 ≡ x)
-in_place x [] i = absurd i
-in_place x (y ∷ ys) (inl e) = (0, omega arith, sym e)
-in_place x (y ∷ ys) (inr i) = let r = in_place x ys i in (suc r.0, omega (arith, r.1), r.2)
-
+-- what stands at a place of a list is in it
 pub place_in : (ys : List ℕ) (j : ℕ) → j < length ys → In (get_or ys j 0) ys
 place_in [] j h = absurd (omega arith)
 place_in (y ∷ ys) zero h = inl refl
@@ -27,34 +21,30 @@ place_in (y ∷ ys) (suc j) h = inr (place_in ys j (omega arith))
 pub same_different : (us vs : List ℕ) → ((x : ℕ) → In x us → In x vs) → ((x : ℕ) → In x vs → In x us) → length (distinct us) ≡ length (distinct vs)
 same_different us vs to back = omega (arith, more_distinct us vs to, more_distinct vs us back)
 
--- one number more, which is there, or is new
-pub old_number : (xs : List ℕ) (x : ℕ) → In x xs → length (distinct (xs ++ x ∷ [])) ≡ length (distinct xs)
-old_number xs x i = same_different (xs ++ x ∷ []) xs
-    (λ y k. elim (in_append y xs (x ∷ []) k) [ inl m ↦ m | inr m ↦ elim m [ inl e ↦ subst (λ z. In z xs) (sym e) i | inr z ↦ absurd z ] ])
-    (λ y k. in_left y xs (x ∷ []) k)
+-- in a list that does not fall, a number is the last of its kind exactly where the next is another
+abbrev pub differ : ℕ × ℕ → Bool
+differ p = not (p.0 == p.1)
 
-pub new_number : (xs : List ℕ) (x : ℕ) → (In x xs → ⊥) → length (distinct (xs ++ x ∷ [])) ≡ suc (length (distinct xs))
-new_number xs x no' = same_number (distinct (xs ++ x ∷ [])) (x ∷ distinct xs) (distinct_distinct (xs ++ x ∷ [])) ((λ i. no' (in_distinct x xs i)), distinct_distinct xs)
-    (λ y k. elim (in_append y xs (x ∷ []) (in_distinct y (xs ++ x ∷ []) k)) [ inl m ↦ inr (distinct_in y xs m) | inr m ↦ elim m [ inl e ↦ inl e | inr z ↦ absurd z ] ])
-    (λ y k. distinct_in y (xs ++ x ∷ []) (elim k [ inl e ↦ in_right y xs (x ∷ []) (inl e) | inr m ↦ in_left y xs (x ∷ []) (in_distinct y xs m) ]))
+member_none : (x : ℕ) (ys : List ℕ) → ((i : ℕ) → i < length ys → x < get_or ys i 0) → member x ys ≡ false
+member_none x [] h = refl
+member_none x (y ∷ ys) h = let k = h 0 (omega arith) in rw (ne_eqb x y (λ e. omega arith)) (member_none x ys (λ i l. h (suc i) (omega arith)))
 
--- the next number of a rising list is new exactly when it is not the one before
-module _ (xs : List ℕ) (up : IsNonDecreasing xs) (i : ℕ) (h : i < length xs) where
-  pub first_number : i ≡ 0 → length (distinct (take (i + 1) xs)) ≡ suc (length (distinct (take i xs)))
-  first_number e = ap (λ us. length (distinct us)) (take_more xs i 0 h) ∙ new_number (take i xs) (get_or xs i 0) (λ k. let r = in_place (get_or xs i 0) (take i xs) k in omega (arith, r.1, length-take i xs))
+pub different_is : (x : ℕ) (xs : List ℕ) → IsNonDecreasing (x ∷ xs) → suc (length (filter differ (zip (x ∷ xs) xs))) ≡ length (distinct (x ∷ xs))
+different_is x [] up = refl
+different_is x (y ∷ ys) up = go (x == y) refl (different_is y ys (λ i j d h l. up (suc i) (suc j) d (omega arith) (omega arith)))
+  where
+    go : (t : Bool) → (x == y) ≡ t → suc (length (filter differ (zip (y ∷ ys) ys))) ≡ length (distinct (y ∷ ys))
+        → suc (length (cond (not t) ((x, y) ∷ filter differ (zip (y ∷ ys) ys)) (filter differ (zip (y ∷ ys) ys)))) ≡ length (cond (cond t true (member x ys)) (distinct (y ∷ ys)) (x ∷ distinct (y ∷ ys)))
+    go true e ih = ih
+    go false e ih =
+        let n = eqb-false x y e in
+        let k : x ≤ y = up 0 1 0 (omega arith) (omega arith) in
+        let after : (i : ℕ) → i < length ys → y ≤ get_or ys i 0 = λ i l. up 1 (suc (suc i)) 0 (omega arith) (omega arith) in
+        rw (member_none x ys (λ i l. omega (arith, after i l))) (ap suc ih)
 
-  pub next_new : (get_or xs (i - 1) 0 ≡ get_or xs i 0 → ⊥) → length (distinct (take (i + 1) xs)) ≡ suc (length (distinct (take i xs)))
-  next_new ne = ap (λ us. length (distinct us)) (take_more xs i 0 h) ∙ new_number (take i xs) (get_or xs i 0) (λ k.
-      let r = in_place (get_or xs i 0) (take i xs) k in
-      let l : r.0 < i = omega (arith, r.1, length-take i xs) in
-      let e = get_or-take i xs r.0 0 l in
-      ne (omega (arith, r.2, e, up r.0 (i - 1) 0 (omega arith) (omega arith), up (i - 1) i 0 (omega arith) h)))
-
-  pub next_old : (i ≡ 0 → ⊥) → get_or xs (i - 1) 0 ≡ get_or xs i 0 → length (distinct (take (i + 1) xs)) ≡ length (distinct (take i xs))
-  next_old ne e =
-      let l : i - 1 < i = omega arith in
-      ap (λ us. length (distinct us)) (take_more xs i 0 h)
-      ∙ old_number (take i xs) (get_or xs i 0) (subst (λ x. In x (take i xs)) (get_or-take i xs (i - 1) 0 l ∙ e) (place_in (take i xs) (i - 1) (omega (arith, length-take i xs))))
+pub different_all : (xs : List ℕ) (n m : ℕ) → IsNonDecreasing xs → n ≡ length (filter differ (zip xs (drop 1 xs))) → m ≡ min 1 (length xs) → n + m ≡ length (distinct xs)
+different_all [] n m up e f = omega arith
+different_all (x ∷ xs) n m up e f = omega (arith, different_is x xs up)
 
 -- the same numbers in another order
 all_in : {A : Type 0} (P : A → Type 0) (x : A) (ys : List A) → AllByRecursion P ys → In x ys → P x

@@ -1,13 +1,10 @@
 -- How many boxes there can be, and how halving goes down.
-use Rattle.std.proofs.Common.{◌≡◌, ℕ, zero, suc, ◌+◌, ◌-◌, ◌^◌, ◌<◌, ◌≤◌, Bool, true, false, List, [], ◌∷◌, map, length, get_or, sym, ap, subst, arith, pow_pos}
-use Rattle.std.proofs.ByRecursion.{All-get_or}
+use Rattle.std.proofs.Common.{◌≡◌, ℕ, zero, suc, ◌+◌, ◌-◌, ◌^◌, ◌<◌, ◌≤◌, Bool, true, false, [], ◌∷◌, map, length, ap, arith, pow_pos}
 use Rattle.std.proofs.lemmas.List.{length-append, length-map}
 use Rattle.boxes.specs.declared.grid_box.GridBox.{GridBox}
-use Rattle.boxes.specs.declared.keys.Keys.{Keys}
 use Rattle.boxes.specs.declared.space.Space.{Space}
 use Rattle.boxes.specs.Cuts.{Path, half, cuts}
 use Rattle.boxes.specs.GridBoxes.{box_of, IsBox}
-use Rattle.boxes.specs.KeyLists.{Fitting}
 use Rattle.boxes.proofs.OfBoxes.{box_long}
 
 -- at most as many boxes stop the halving as there are points
@@ -33,6 +30,3 @@ half_level g h x e = omega (arith, box_long h, ap length e.1, length-append (box
 -- so fewer halvings are left
 pub half_falls : (g h : GridBox) (x : Bool) → IsBox g.space.now (half (box_of g) x) h → g.level < g.space.now.depth → h.space.now.depth - h.level < g.space.now.depth - g.level
 half_falls g h x b k = omega (arith, ap (λ (u : Space). u.depth) b.0, half_level g h x b)
-
-pub fitting_at : (s : Space) (ps : List Keys) (i : ℕ) (p : Keys) → Fitting s ps → i < length ps → p ≡ get_or ps i p → p.count ≡ s.keys
-fitting_at s ps i p f h e = subst (λ (q : Keys). q.count ≡ s.keys) (sym e) (All-get_or (λ (q : Keys). q.count ≡ s.keys) ps i p h f)

@@ -1,3 +1,4 @@
+pub mod Alls
 pub mod Cuts
 pub mod Splice
 pub mod Leaves
@@ -9,6 +10,7 @@ pub mod Directories
 pub mod Refine
 pub mod Spans
 pub mod Order
+pub mod Fronts
 pub mod Levels
 pub mod Changes
 pub mod Cells

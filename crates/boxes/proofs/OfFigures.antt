@@ -1,9 +1,8 @@
 -- The figures of a set of points, from the survey of the whole space.
-use Rattle.std.proofs.Common.{◌≡◌, ℕ, ◌+◌, ◌^◌, ◌<◌, ◌≤◌, Bool, leb, List, [], map, length, get_or, take, set, sym, ap, ◌∙◌, inl, inr, arith, pow_mono}
+use Rattle.std.proofs.Common.{◌≡◌, ℕ, ◌+◌, ◌^◌, ◌<◌, ◌≤◌, Bool, ◌&&◌, leb, List, [], map, length, get_or, take, set, sym, ap, ap₂, ◌∙◌, inl, inr, arith, pow_mono}
 use mathlib.Core.Path.{fun_ext}
 use mathlib.Core.List.{map-map}
 use Rattle.std.specs.List.Sorted.{IsPermutation}
-use Rattle.std.proofs.ByRecursion.{All-weaker, all_shuffled}
 use Rattle.std.proofs.lemmas.List.{get_or-set_same, get_or-set_other, get_or-take, length-take}
 use Rattle.std.proofs.lemmas.Bool.{cases_eq}
 use Rattle.boxes.specs.declared.figures.Figures.{Figures}
@@ -14,30 +13,24 @@ use Rattle.boxes.specs.declared.survey.Survey.{Survey}
 use Rattle.boxes.specs.Counts.{Countable}
 use Rattle.boxes.specs.Cuts.{Path, cuts, around}
 use Rattle.boxes.specs.Directories.{boundaries, cells, directories, ends, fits, limits}
-use Rattle.boxes.specs.Figures.{figures, Points}
+use Rattle.boxes.specs.Figures.{figures}
 use Rattle.boxes.specs.GridBoxes.{box_of, IsBox}
-use Rattle.boxes.specs.KeyLists.{Fitting, keys_of, way_of}
+use Rattle.boxes.specs.KeyLists.{keys_of, way_of}
 use Rattle.boxes.specs.Leaves.{few, leaves}
-use Rattle.boxes.specs.Points.{Point, lows, path}
+use Rattle.boxes.specs.Points.{lows, path}
 use Rattle.boxes.specs.Spaces.{widths_of, order_of}
 use Rattle.boxes.specs.Surveys.{Surveyed}
 use Rattle.boxes.proofs.Cuts.{in_map_back}
 use Rattle.boxes.proofs.Differing.{few_different}
-use Rattle.boxes.proofs.DirectoryCount.{boundaries_same, cells_same, limits_same}
+use Rattle.boxes.proofs.DirectoryCount.{boundaries_same, cells_same}
 use Rattle.boxes.proofs.Halvings.{cuts_bound}
 use Rattle.boxes.proofs.Lows.{lows_below}
 use Rattle.boxes.proofs.OfBoxes.{names}
 use Rattle.boxes.proofs.OfRoots.{as_whole, all_leaves, all_directories, whole_leaves, whole_directories}
 use Rattle.boxes.proofs.Tallies.{same_shuffled, tally_map}
 
-pub points_fit : (s : Space) (ps : List Keys) → Points s ps → Fitting s ps
-points_fit s ps h = All-weaker (λ p. Point (widths_of s) (keys_of p)) (λ (p : Keys). p.count ≡ s.keys) (λ p q. sym p.long ∙ q.long ∙ s.wide) ps h
-
 -- the points in another order have the same boxes
 module _ (s : Space) (c : ℕ) (ps qs : List Keys) (h : IsPermutation ps qs) where
-  pub fitting_shuffled : Fitting s ps → Fitting s qs
-  fitting_shuffled f = all_shuffled (λ (p : Keys). p.count ≡ s.keys) ps qs h f
-
   leaves_shuffled : all_leaves s c ps ≡ all_leaves s c qs
   leaves_shuffled = ap (λ f. cuts (length (order_of s)) f (f [])) (fun_ext (λ b. ap (λ m. leb m c)
       (tally_map (around b) (way_of s) ps ∙ same_shuffled ps qs h (λ p. around b (way_of s p)) ∙ sym (tally_map (around b) (way_of s) qs))))
@@ -46,9 +39,9 @@ module _ (s : Space) (c : ℕ) (ps qs : List Keys) (h : IsPermutation ps qs) whe
   directories_shuffled = ap (directories (widths_of s) (order_of s)) leaves_shuffled
 
 -- one key more is counted
-pub counted_more : (ns : List ℕ) (f : ℕ → ℕ) (key n : ℕ) → length ns ≡ 4 → key < 4 → n ≡ f key → ((i : ℕ) → i < key → get_or ns i 0 ≡ f i) → (i : ℕ) → i < key + 1 → get_or (set ns key n) i 0 ≡ f i
-counted_more ns f key n l k e w i h = elim (cases_eq i key) [
-  | inl q ↦ let m : key < length ns = omega arith in rw (q, get_or-set_same ns key n 0 m) e
+pub counted_more : (ns : List ℕ) (f : ℕ → ℕ) (key n : ℕ) → key < length ns → n ≡ f key → ((i : ℕ) → i < key → get_or ns i 0 ≡ f i) → (i : ℕ) → i < key + 1 → get_or (set ns key n) i 0 ≡ f i
+counted_more ns f key n k e w i h = elim (cases_eq i key) [
+  | inl q ↦ rw (q, get_or-set_same ns key n 0 k) e
   | inr ne ↦ rw (get_or-set_other ns key i n 0 ne) (w i (omega arith))
 ]
 
@@ -81,7 +74,10 @@ module _ (s : Space) (c : ℕ) (ps : List Keys) where
       let r = in_map_back (λ b. get_or (lows ws ord b) i 0) x (all_directories s c ps) k in
       omega (arith, r.1, lows_below r.0 ws ord (names s) i))
 
-  module _ (ns : List ℕ) (four : length ns ≡ 4) (w : (i : ℕ) → i < s.keys → get_or ns i 0 ≡ root i) (k : ℕ) (ek : k ≡ s.keys) where
+  module _ (ns : List ℕ) (four : length ns ≡ 4) (w : (i : ℕ) → i < s.keys → get_or ns i 0 ≡ root i) where
+    abbrev k : ℕ
+    k = s.keys
+
     front : length (take k ns) ≡ s.keys
     front = omega (arith, length-take k ns, s.few)
 
@@ -103,18 +99,15 @@ module _ (s : Space) (c : ℕ) (ps : List Keys) where
     pub root_cells : cells (length (take k ns)) (λ i. get_or (take k ns) i 0) ≡ cells (length ws) root
     root_cells = cells_same (length (take k ns)) (λ i. get_or (take k ns) i 0) root same ∙ ap (λ n. cells n root) keys_are
 
-    pub root_limits : limits 250 1024 (length (take k ns)) (λ i. get_or (take k ns) i 0) ≡ limits 250 1024 (length ws) root
-    root_limits = limits_same 250 1024 (length (take k ns)) (λ i. get_or (take k ns) i 0) root same ∙ ap (λ n. limits 250 1024 n root) keys_are
-
   pub figures_are : figures_over ws ord (all_leaves s c ps) ≡ figures ws c (map keys_of ps)
   figures_are =
       ap (λ hs. figures_over ws ord (leaves (length ord) c hs)) (sym (map-map (path ws ord) keys_of ps))
       ∙ ap (λ o. figures_over ws o (leaves (length o) c (map (path ws o) (map keys_of ps)))) s.ordered
 
-  pub figures_made : (l d b n : ℕ) (f : Bool) → l ≡ length (all_leaves s c ps) → d ≡ length (all_directories s c ps) → b ≡ boundaries (length ws) root → n ≡ cells (length ws) root → f ≡ limits 250 1024 (length ws) root
+  pub figures_made : (l d b n : ℕ) (f : Bool) → l ≡ length (all_leaves s c ps) → d ≡ length (all_directories s c ps) → b ≡ boundaries (length ws) root → n ≡ cells (length ws) root → f ≡ (leb b 250 && leb n 1024)
       → record { leaf_boxes = l; directory_boxes = d; pages = 8 + d + l; root_boundaries = b; root_cells = n; root_fits = f } ≡ figures ws c (map keys_of ps)
   figures_made l d b n f el ed eb en ef =
-      (λ i. record { leaf_boxes = el i; directory_boxes = ed i; pages = 8 + ed i + el i; root_boundaries = eb i; root_cells = en i; root_fits = ef i })
+      (λ i. record { leaf_boxes = el i; directory_boxes = ed i; pages = 8 + ed i + el i; root_boundaries = eb i; root_cells = en i; root_fits = (ef ∙ ap₂ (λ x y. leb x 250 && leb y 1024) eb en) i })
       ∙ figures_are
 
   -- what the survey of the whole space found

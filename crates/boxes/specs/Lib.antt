@@ -10,13 +10,13 @@ pub mod KeyRanges
 pub mod Laws
 pub mod Leaves
 pub mod Levels
-pub mod LowerEnds
 pub mod Order
 pub mod Parts
 pub mod Placed
 pub mod Points
 pub mod Ranges
 pub mod Rising
+pub mod RisingEnds
 pub mod Scales
 pub mod Space
 pub mod Spaces

@@ -2,7 +2,7 @@
 use Rattle.std.specs.Prelude.{◌≡◌, ℕ, ◌<◌, true, false, List, [], map, length, Some, None, Option, slice_index_or}
 use Rattle.boxes.specs.declared.scales.Scales.{Scales}
 use Rattle.boxes.specs.Directories.{limits}
-use Rattle.boxes.specs.LowerEnds.{ends_of}
+use Rattle.boxes.specs.RisingEnds.{ends_of}
 use Rattle.boxes.specs.Rising.{insert_all}
 
 -- the lower ends in key i, rising

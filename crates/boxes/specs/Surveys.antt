@@ -1,5 +1,5 @@
 -- What a walk over the halves of a box finds in it. The box is b, of level l, in the space s; boxes in it are given as seen from it, by the halves taken from it on.
-use Rattle.std.specs.Prelude.{◌≡◌, ℕ, ◌+◌, ◌-◌, ◌<◌, ◌≤◌, Bool, true, false, cond, ◌⊎◌, List, [], ◌++◌, map, length, take, Some, None, Option, slice_index, slice_set}
+use Rattle.std.specs.Prelude.{◌≡◌, ℕ, ◌-◌, ◌<◌, ◌≤◌, Bool, true, false, List, [], ◌++◌, map, length, take, Some, None, Option, slice_index}
 use Rattle.boxes.specs.declared.keys.Keys.{Keys}
 use Rattle.boxes.specs.declared.scales.Scales.{Scales}
 use Rattle.boxes.specs.declared.space.Space.{Space}
@@ -38,13 +38,6 @@ pub record Surveyed (s : Space) (l : ℕ) (b : Path) (c : ℕ) (ps : List Keys) 
   pub directory_number : r.directory_boxes ≡ length (directories_in s l b (leaves_in s l c ps))
   pub lower_ends : Found s b (leaves_in s l c ps) r.scales
 
--- of a box with the leaf boxes ls: behind n numbers, the lower ends in key i of its directory boxes have been noted, unless it keeps the limits itself
-pub record Noted (s : Space) (l : ℕ) (b : Path) (ls : List Path) (i : ℕ) (old : List ℕ) (n : ℕ) (new : List ℕ) (m : ℕ) : Type 0 where
-  pub number : m ≡ cond (keeps_in s b ls) n (n + length (directories_in s l b ls))
-  pub told : (x : ℕ) → In x (take m new) → In x (take n old) ⊎ ((keeps_in s b ls ≡ false) × In x (ends_in s b (directories_in s l b ls) i))
-  pub all_told : (x : ℕ) → In x (take n old) ⊎ ((keeps_in s b ls ≡ false) × In x (ends_in s b (directories_in s l b ls) i)) → In x (take m new)
-
--- one number more behind n, if it is wanted and there is room for it
-abbrev pub Added : Bool → ℕ → List ℕ → ℕ → List ℕ → ℕ → Type 0
-Added false x old n new m = (m ≡ n) × (new ≡ old)
-Added true x old n new m = (n < length old → (m ≡ n + 1) × (new ≡ slice_set old n x)) × (length old ≤ n → (m ≡ n) × (new ≡ old))
+-- of a box with the leaf boxes ls: the room begins with the lower ends in key i of its directory boxes, where it has a place for each
+abbrev pub Noted : Space → ℕ → Path → List Path → ℕ → List ℕ → Type 0
+Noted s l b ls i room = length (directories_in s l b ls) ≤ length room → take (length (directories_in s l b ls)) room ≡ ends_in s b (directories_in s l b ls) i

@@ -1,6 +1,6 @@
 // The figures of a set of points, and why there are none.
 
-#[derive(Clone, Copy)]
+#[derive(Clone, Copy, Debug, PartialEq, Eq)]
 pub struct Figures {
     pub leaf_boxes: usize,
     pub directory_boxes: usize,
@@ -12,7 +12,7 @@ pub struct Figures {
     pub root_fits: bool,
 }
 
-#[derive(Clone, Copy)]
+#[derive(Clone, Copy, Debug, PartialEq, Eq)]
 pub enum NotMeasured {
     // some of the points are none of the space
     NotPoints,

@@ -2,8 +2,8 @@
 ghost use Rattle.std.specs.Prelude.{◌≡◌, ℕ, ◌<◌, ◌≤◌, [], ◌∷◌, map, length, slice_index};
 ghost use Rattle.boxes.specs.Scales.{scale, ScalesJoined, HalvesJoined};
 
-use crate::limits::keeps_limits;
-use crate::lower_ends::LowerEnds;
+use crate::limits::EndGrid;
+use crate::rising_ends::RisingEnds;
 use crate::scales::Scales;
 
 impl Scales {
@@ -12,12 +12,7 @@ impl Scales {
         ensures { (i : ℕ) → i < 4 → scale result i ≡ slice_index low.now i ∷ [] }
     {
         Scales {
-            ends: [
-                LowerEnds::one(low[0]),
-                LowerEnds::one(low[1]),
-                LowerEnds::one(low[2]),
-                LowerEnds::one(low[3]),
-            ],
+            ends: low.map(RisingEnds::one),
         }
     }
 
@@ -27,12 +22,8 @@ impl Scales {
         ensures { ScalesJoined keys self.now other.now result }
     {
         let mut ends = self.ends;
-        for key in 0..keys {
-            let mut own = ends[key];
-            if !own.join(&other.ends[key]) {
-                return None;
-            }
-            ends[key] = own;
+        for (key, scale) in ends[..keys].iter_mut().enumerate() {
+            *scale = scale.joined(&other.ends[key])?;
         }
         Some(Scales { ends })
     }
@@ -41,12 +32,7 @@ impl Scales {
     pub(crate) fn counts(&self) -> [usize; 4]
         ensures { (i : ℕ) → i < 4 → slice_index result i ≡ length (scale self.now i) }
     {
-        [
-            self.ends[0].count,
-            self.ends[1].count,
-            self.ends[2].count,
-            self.ends[3].count,
-        ]
+        self.ends.map(|ends| ends.count)
     }
 }
 
@@ -59,18 +45,7 @@ pub(crate) fn halves_joined(
     requires { keys ≤ 4 }
     ensures { HalvesJoined keys lower.now upper.now result }
 {
-    let Some(own) = lower else {
-        return None;
-    };
-    let Some(more) = upper else {
-        return None;
-    };
-    let Some(scales) = own.joined(more, keys) else {
-        return None;
-    };
-    let counts = scales.counts();
-    if !keeps_limits(&counts[0..keys], 60, 80) {
-        return None;
-    }
-    Some(scales)
+    let scales = lower.as_ref()?.joined(upper.as_ref()?, keys)?;
+    let grid = EndGrid::of(&scales.counts()[..keys]);
+    grid.keeps_limits(60, 80).then_some(scales)
 }

@@ -14,11 +14,11 @@ mod key_range;
 mod key_ranges;
 mod keys;
 mod limits;
-mod lower_ends;
 mod measuring;
 mod padding;
 mod parting;
 mod rising;
+mod rising_ends;
 mod scales;
 mod space;
 mod spaces;
@@ -31,6 +31,9 @@ pub use grid_box::GridBox;
 pub use key_range::KeyRange;
 pub use keys::Keys;
 pub use measuring::measure;
+pub use padding::padded;
+pub use rising::insert_end;
+pub use rising_ends::RisingEnds;
 pub use space::Space;
 
 // Computes nothing: its promise is the laws of boxes, leaf boxes and directory boxes, and the worked cases.

@@ -1,31 +1,27 @@
 // The figures of a set of points.
-ghost use Rattle.std.specs.Prelude.{◌≡◌, ℕ, ◌<◌, ◌≤◌, map, length, Decides, slice_index};
+// Points, capacity and room stay parameters of their own: the walk lends a part of the points and of the room to each half of a box.
+ghost use Rattle.std.specs.Prelude.{◌≡◌, ℕ, ◌<◌, ◌≤◌, ◌↔◌, map, length, IsTrue, slice_index};
 ghost use Rattle.std.specs.List.Sorted.{IsPermutation, IsNonDecreasing};
 ghost use Rattle.boxes.specs.Directories.{directories, distinct, ends};
 ghost use Rattle.boxes.specs.Figures.{Measured, Points};
-ghost use Rattle.boxes.specs.KeyLists.{Fitting, way_of};
+ghost use Rattle.boxes.specs.KeyLists.{way_of};
 ghost use Rattle.boxes.specs.Leaves.{leaves};
 ghost use Rattle.boxes.specs.Spaces.{widths_of, order_of};
 
 use crate::figures::{Figures, NotMeasured};
 use crate::grid_box::GridBox;
 use crate::keys::Keys;
-use crate::limits::{boundaries_of, cells_of, keeps_limits};
+use crate::limits::EndGrid;
 use crate::space::Space;
-use crate::surveys::{note, survey};
+use crate::surveys::survey;
 
 // The different numbers in a list that rises.
 fn different(sorted: &[u32]) -> usize
     requires { IsNonDecreasing sorted.now }
     ensures { result ≡ length (distinct sorted.now) }
 {
-    let mut count: usize = 0;
-    for i in 0..sorted.len() {
-        if i == 0 || sorted[i - 1] != sorted[i] {
-            count += 1;
-        }
-    }
-    count
+    let pairs = sorted.iter().zip(sorted.iter().skip(1));
+    pairs.filter(|(x, next)| x != next).count() + usize::from(!sorted.is_empty())
 }
 
 // How many different lower ends the directory boxes have in one key. The points come back in another order;
@@ -37,42 +33,33 @@ fn root_ends(
     key: usize,
     room: &mut [u32],
 ) -> usize
-    requires fitting { Fitting space.now points.old }
     requires key_lt_keys { key < space.now.keys }
     requires points_in_bounds { length (directories (widths_of space.now) (order_of space.now) (leaves (length (order_of space.now)) capacity (map (way_of space.now) points.old))) ≤ length room.old }
     ensures same { IsPermutation points.old points.new }
     ensures counted { result ≡ ends (widths_of space.now) (order_of space.now) (directories (widths_of space.now) (order_of space.now) (leaves (length (order_of space.now)) capacity (map (way_of space.now) points.old))) key }
 {
-    let whole = GridBox::whole(space);
-    let found = survey(&whole, points, capacity, key, room, 0);
-    let noted = note(room, found.noted, found.scales.is_some(), whole.low[key]);
-    let lower_ends = &mut room[0..noted];
+    let found = survey(&GridBox::whole(space), points, capacity, key, room);
+    let lower_ends = &mut room[..found.directory_boxes];
     lower_ends.sort_unstable();
     different(lower_ends)
 }
 
 // Are all of these points of the space?
 fn are_points(space: &Space, points: &[Keys]) -> bool
-    ensures { Decides result (Points space.now points.now) }
+    ensures { IsTrue result ↔ Points space.now points.now }
 {
-    for point in points {
-        if !space.has_point(point.as_slice()) {
-            return false;
-        }
-    }
-    true
+    points.iter().all(|point| space.has_point(point.as_slice()))
 }
 
 // How many different lower ends the directory boxes have in each key, and 1 for a key that does not exist.
 fn root_counts(space: &Space, points: &mut [Keys], capacity: usize, room: &mut [u32]) -> [usize; 4]
-    requires fitting { Fitting space.now points.old }
-    requires points_in_bounds { length (directories (widths_of space.now) (order_of space.now) (leaves (length (order_of space.now)) capacity (map (way_of space.now) points.old))) ≤ length room.old }
+    requires { length (directories (widths_of space.now) (order_of space.now) (leaves (length (order_of space.now)) capacity (map (way_of space.now) points.old))) ≤ length room.old }
     ensures same { IsPermutation points.old points.new }
     ensures counted { (i : ℕ) → i < space.now.keys → slice_index result i ≡ ends (widths_of space.now) (order_of space.now) (directories (widths_of space.now) (order_of space.now) (leaves (length (order_of space.now)) capacity (map (way_of space.now) points.old))) i }
 {
     let mut counts = [1; 4];
-    for key in 0..space.keys {
-        counts[key] = root_ends(space, points, capacity, key, room);
+    for (key, count) in counts[..space.keys].iter_mut().enumerate() {
+        *count = root_ends(space, points, capacity, key, room);
     }
     counts
 }
@@ -90,31 +77,18 @@ pub fn measure(
     if !are_points(space, points) {
         return Err(NotMeasured::NotPoints);
     }
-    measure_points(space, capacity, points, room)
-}
-
-// The same of points of the space.
-fn measure_points(
-    space: &Space,
-    capacity: usize,
-    points: &mut [Keys],
-    room: &mut [u32],
-) -> Result<Figures, NotMeasured>
-    requires { Points space.now points.old }
-    ensures { Measured space.now capacity points.old points.new room.old room.new result }
-{
-    let found = survey(&GridBox::whole(space), points, capacity, 0, &mut [], 0);
+    let found = survey(&GridBox::whole(space), points, capacity, 0, &mut []);
     if room.len() < found.directory_boxes {
         return Err(NotMeasured::ShortRoom(found.directory_boxes));
     }
     let counts = root_counts(space, points, capacity, room);
-    let root = &counts[0..space.keys];
+    let root = EndGrid::of(&counts[..space.keys]);
     Ok(Figures {
         leaf_boxes: found.leaf_boxes,
         directory_boxes: found.directory_boxes,
         pages: 8 + found.directory_boxes + found.leaf_boxes,
-        root_boundaries: boundaries_of(root),
-        root_cells: cells_of(root),
-        root_fits: keeps_limits(root, 250, 1024),
+        root_boundaries: root.boundaries,
+        root_cells: root.cells,
+        root_fits: root.keeps_limits(250, 1024),
     })
 }

@@ -9,6 +9,4 @@ pub struct Survey {
     pub directory_boxes: usize,
     // its lower ends, where it keeps the limits
     pub scales: Option<Scales>,
-    // how many lower ends of directory boxes stand in the room
-    pub noted: usize,
 }

@@ -1,19 +1,19 @@
 -- A record added to a bucket page, and one taken out.
-use Rattle.std.proofs.Common.{◌≡◌, ℕ, ◌+◌, ◌-◌, ◌*◌, ◌<◌, ◌≤◌, List, [], ◌∷◌, ◌++◌, length, get_or, set, sym, refl, ap, ◌∙◌, subst, ⊎_elim, arith, length-set}
-use borrow.Rule.Slice.PartMut.{put_mid}
-use Rattle.std.specs.List.{remove}
+use Rattle.std.proofs.Common.{◌≡◌, ℕ, ◌+◌, ◌-◌, ◌*◌, ◌<◌, ◌≤◌, List, [], ◌∷◌, ◌++◌, length, get_or, set, replicate, sym, refl, ap, ◌∙◌, subst, ⊎_elim, arith, length-set}
+use borrow.Rule.Slice.PartMut.{put_mid, mid_of}
+use Rattle.std.specs.List.{remove, CopiedTo, SameBelow, SameFrom}
 use lib.Seq.{paste}
 use Rattle.std.proofs.lemmas.Nat.{mul-le}
 use Rattle.std.proofs.lemmas.List.Edits.{length-remove, get_or-remove_below, get_or-remove_above}
-use Rattle.std.proofs.lemmas.List.{places, get_or_past, length-append, length-take, length-drop, get_or-set_same, get_or-set_other, get_or_append_left, get_or_push, length_push}
+use Rattle.std.proofs.lemmas.List.{places, get_or_past, length-append, length-take, length-drop, length-replicate, get_or-set_same, get_or-set_other, get_or_append_left, get_or_push, length_push}
 use Rattle.std.proofs.lemmas.Slice.{put_mid-paste}
-use Rattle.std.proofs.lemmas.Bool.{cases_lt, cases_eq}
+use Rattle.std.proofs.lemmas.Bool.{cases_lt}
 use Rattle.kinds.specs.Meaning.{Meaning, Lawful}
 use Rattle.buckets.specs.Bucket.{record_at}
 use Rattle.buckets.specs.BucketRules.{count_of}
 use Rattle.buckets.specs.BucketWrites.{Closed, Turned}
 use Rattle.buckets.proofs.BucketRooms.{ends_inside, more_size}
-use Rattle.buckets.proofs.BucketViews.{Bytewise, view, from_view, part_is, part_byte, record_long}
+use Rattle.buckets.proofs.BucketViews.{Bytewise, view, from_view, part_is, part_byte, record_long, zeros_zero}
 
 -- a part of a list that was written over, at the width k
 module _ (a k : ℕ) (m b : List ℕ) (fits : a + k ≤ length m) (e : length b ≡ k) where
@@ -171,29 +171,26 @@ taken_is m l page shut place room long z ze moved level rs of =
     let c : Closed page (4 + place * m.size) m.size shut = subst (λ n. Closed page (4 + place * n) n shut) ze moved in
     rw v.count (from_view m l level (remove rs place) _ (taken_bytes m l level rs page v place (rw v.count at room) shut long c))
 
--- the walk that moves the bytes up, before byte i
-pub record Shifted (page now : List ℕ) (start size i : ℕ) : Type 0 where
-  pub before : (k : ℕ) → k < start → get_or now k 0 ≡ get_or page k 0
-  pub moved : (k : ℕ) → start ≤ k → k < i → get_or now k 0 ≡ get_or page (k + size) 0
-  pub ahead : (k : ℕ) → i ≤ k → get_or now k 0 ≡ get_or page k 0
-
-pub shifted_more : (page now : List ℕ) (start size i : ℕ) → start ≤ i → i < length now → Shifted page now start size i →
-    (b : ℕ) → b ≡ get_or now (i + size) 0 → Shifted page (set now i b) start size (i + 1)
-shifted_more page now start size i le lt s b be = record {
-  before = λ k h. get_or-set_other now i k b 0 (λ q. omega arith) ∙ s.before k h;
-  moved = λ k ge h. ⊎_elim
-      (λ same. ap (λ n. get_or (set now i b) n 0) same ∙ get_or-set_same now i b 0 lt ∙ be ∙ s.ahead (i + size) (omega arith) ∙ ap (λ n. get_or page (n + size) 0) (sym same))
-      (λ ne. get_or-set_other now i k b 0 ne ∙ s.moved k ge (omega arith))
-      (cases_eq k i);
-  ahead = λ k h. get_or-set_other now i k b 0 (λ q. omega arith) ∙ s.ahead k (omega arith);
-}
-
--- all bytes are moved
-pub shifted_all : (page now : List ℕ) (start size i : ℕ) → length page ≡ 512 → 512 ≤ i → Shifted page now start size i → Closed page start size now
-shifted_all page now start size i long le s = (
-  s.before,
-  λ k ge. ⊎_elim
-      (λ lt. s.moved k ge lt)
-      (λ past. s.ahead k past ∙ get_or_past page k 0 (omega arith) ∙ sym (get_or_past page (k + size) 0 (omega arith)))
-      (cases_lt k i),
-)
+-- what stands behind a gap has moved up to its start, and the end is zero
+pub gap_closed : (page now : List ℕ) (start size : ℕ) (zeros : List ℕ) → start + size ≤ 512 → length page ≡ 512 → length now ≡ 512
+    → CopiedTo page now (start + size) start (length page - (start + size)) × SameBelow page now start × SameFrom page now (start + (length page - (start + size)))
+    → zeros ≡ replicate (length (mid_of (512 - size) (512 - (512 - size)) now)) 0
+    → Closed page start size (put_mid (512 - size) (512 - (512 - size)) now zeros)
+gap_closed page now start size zeros fits long same copied none =
+    let a = 512 - size in
+    let k = 512 - (512 - size) in
+    let n : length (mid_of a k now) ≡ k = simp (length-take, length-drop) (omega arith) in
+    let z : length zeros ≡ k = ap length none ∙ length-replicate _ 0 ∙ n in
+    let inside : a + k ≤ length now = omega arith in (
+      (λ i h. put_before a k now zeros inside z i (omega arith) ∙ copied.1 i 0 h),
+      (λ i h. ⊎_elim
+          (λ lt. let e : start + size + (i - start) ≡ i + size = omega arith in
+          put_before a k now zeros inside z i lt ∙ copied.0 i 0 h (omega arith) ∙ ap (λ j. get_or page j 0) e)
+          (λ ge. ⊎_elim
+          (λ lt. let e : a + (i - a) ≡ i = omega arith in
+          ap (λ j. get_or (put_mid a k now zeros) j 0) (sym e) ∙ put_here a k now zeros inside z (i - a) (omega arith)
+          ∙ ap (λ (bs : List ℕ). get_or bs (i - a) 0) none ∙ zeros_zero (length (mid_of a k now)) (i - a) ∙ sym (get_or_past page (i + size) 0 (omega arith)))
+          (λ past. get_or_past (put_mid a k now zeros) i 0 (omega (arith, put_long a k now zeros inside z)) ∙ sym (get_or_past page (i + size) 0 (omega arith)))
+          (cases_lt i 512))
+          (cases_lt i a)),
+    )

@@ -1,52 +1,39 @@
--- The walk over the records of a bucket page.
-use Rattle.std.proofs.Common.{◌≡◌, ℕ, ◌+◌, ◌<◌, Bool, true, false, List, Some, None, Decides, Option, sym, ap, ◌∙◌, ⊎_elim, arith, below_more}
-use Rattle.std.proofs.lemmas.Bool.{false≢true, both_ways, cases_lt}
+-- The records of a bucket page, one by one: each valid, and the first with its keys.
+use Rattle.std.proofs.Common.{◌≡◌, ℕ, ◌<◌, ◌≤◌, Bool, true, false, List, length, Some, None, Option, Decides, MatchBool, sym, refl, ap, ◌∙◌, subst, inl, inr, zero-add, arith}
+use Rattle.std.specs.List.{range_with_len, AllWithin, HoldsAt}
+use Rattle.std.proofs.lemmas.List.FromFn.{length-range_with_len, get_or-range_with_len}
+use Rattle.std.proofs.lemmas.Bool.{cases_order, false≢true}
 use Rattle.kinds.specs.Meaning.{Meaning}
-use Rattle.buckets.specs.Bucket.{record_at}
-use Rattle.buckets.specs.BucketRules.{Valid, RecordsValid, count_of}
+use Rattle.buckets.specs.BucketRules.{RecordsValid, FirstRight, count_of}
+use Rattle.buckets.specs.Firsts.{FirstWith}
 
--- a record has the keys ks exactly where its own keys are these
-pub keys_decide : (o ks : List ℕ) (r : Option (List ℕ)) {t : Bool} → Some o ≡ r → Decides t (o ≡ ks) → Decides t (r ≡ Some ks)
-keys_decide o ks r s d = (λ e. sym s ∙ ap Some (d.0 e), λ q. d.1 (cc))
+-- there is one first place
+pub one_first : (P : ℕ → Type 0) (n i : ℕ) (r : Option ℕ) → FirstWith P n (Some i) → FirstWith P n r → r ≡ Some i
+one_first P n i None f none = absurd (none i f.0 f.1)
+one_first P n i (Some j) f h =
+    elim (cases_order i j) [
+      | inl same ↦ ap Some (sym same)
+      | inr (inl lt) ↦ absurd (h.2 i lt f.1)
+      | inr (inr gt) ↦ absurd (f.2 j gt h.1)
+    ]
+
+-- what a test of all numbers below n has told
+pub all_in_range : (P : ℕ → Type 0) (n : ℕ) (r : Bool)
+    → MatchBool r (AllWithin P (range_with_len 0 n) 0 (length (range_with_len 0 n))) ((k : ℕ) × (k < length (range_with_len 0 n)) × HoldsAt (λ i. P i → ⊥) (range_with_len 0 n) k)
+    → Decides r ((k : ℕ) → k < n → P k)
+all_in_range P n true h = (λ e k lt. subst P (get_or-range_with_len 0 n k 0 lt ∙ zero-add k) (h k 0 (omega arith) (omega (arith, length-range_with_len 0 n))), λ all. refl)
+all_in_range P n false h =
+    let lt : h.0 < n = omega (arith, h.1, length-range_with_len 0 n) in
+    (λ e. absurd (false≢true e), λ all. absurd (h.2 0 (subst P (sym (get_or-range_with_len 0 n h.0 0 lt ∙ zero-add h.0)) (all h.0 lt))))
 
 module _ (m : Meaning) (Right : List ℕ → Type 0) (page : List ℕ) where
-  abbrev pub ValidBelow : ℕ → Type 0
-  ValidBelow n = (a : ℕ) → a < n → Valid m Right page a
+  pub valid_from_firsts : ((i : ℕ) → i < count_of page → FirstRight m Right page i) → RecordsValid m Right page
+  valid_from_firsts first = record {
+    valid = λ i h. let f = first i h in (f.0, f.2.1, f.1);
+    apart = λ i j lt h e. let f = first j h in f.2.2 i lt (e ∙ f.2.1);
+  }
 
-  abbrev pub ApartBelow : ℕ → Type 0
-  ApartBelow n = (a b : ℕ) → a < b → b < n → m.read (record_at m page a) ≡ m.read (record_at m page b) → ⊥
-
-  abbrev pub NoneLike : ℕ → ℕ → Type 0
-  NoneLike i n = (a : ℕ) → a < n → m.read (record_at m page a) ≡ m.read (record_at m page i) → ⊥
-
-  refused : (RecordsValid m Right page → ⊥) → Decides false (RecordsValid m Right page)
-  refused no_way = (λ e. absurd (false≢true e), λ r. absurd (no_way r))
-
-  pub refuse_none : (i : ℕ) → i < count_of page → None ≡ m.read (record_at m page i) → Decides false (RecordsValid m Right page)
-  refuse_none i h e = refused (λ r. let v = r.valid i h in let q = v.1 in grind arith)
-
-  pub refuse_outside : (i : ℕ) (ks : List ℕ) {t : Bool} → i < count_of page → Some ks ≡ m.read (record_at m page i) →
-      Decides t (Right ks) → t ≡ false → Decides false (RecordsValid m Right page)
-  refuse_outside i ks {t} h k d f = refused (λ r.
+  pub firsts_from_valid : RecordsValid m Right page → count_of page ≤ m.capacity → (i : ℕ) → i < count_of page → FirstRight m Right page i
+  firsts_from_valid r few i h =
       let v = r.valid i h in
-      let q = v.1 in
-      let same : v.0 ≡ ks = cc in
-      both_ways t f (d.1 (rw same at v.2)))
-
-  pub refuse_twin : (i j : ℕ) (ks : List ℕ) {t : Bool} → i < count_of page → j < i → Some ks ≡ m.read (record_at m page i) →
-      Decides t (m.read (record_at m page j) ≡ Some ks) → t ≡ true → Decides false (RecordsValid m Right page)
-  refuse_twin i j ks h lt k d e = refused (λ r. r.apart j i lt h (d.0 e ∙ k))
-
-  pub twin_more : (i j : ℕ) (ks : List ℕ) {t : Bool} → Some ks ≡ m.read (record_at m page i) → Decides t (m.read (record_at m page j) ≡ Some ks) → t ≡ false →
-      NoneLike i j → NoneLike i (j + 1)
-  twin_more i j ks {t} k d f before = below_more _ _ before (λ e. both_ways t f (d.1 (e ∙ sym k)))
-
-  pub valid_more : (i : ℕ) (ks : List ℕ) {t : Bool} → Some ks ≡ m.read (record_at m page i) → Decides t (Right ks) → t ≡ true → ValidBelow i → ValidBelow (i + 1)
-  valid_more i ks k d f before = below_more _ _ before (ks, sym k, d.0 f)
-
-  pub apart_more : (i : ℕ) → NoneLike i i → ApartBelow i → ApartBelow (i + 1)
-  apart_more i none before a b lt h =
-      ⊎_elim
-      (λ below. before a b lt below)
-      (λ ge. let e : b ≡ i = omega arith in rw e (none a (omega arith)))
-      (cases_lt b i)
+      (v.0, v.2, (omega arith, v.1, λ k lt e. r.apart k i lt h (e ∙ sym v.1)))

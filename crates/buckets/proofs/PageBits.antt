@@ -1,5 +1,19 @@
 -- Bits of bytes, and how many pages are in use.
-use Rattle.std.proofs.Common.{◌≡◌, ℕ, zero, suc, ◌+◌, ◌/◌, ◌%◌, ◌^◌, ◌<◌, Bool, true, false, cond, not, ◌&&◌, eqb, sym, refl, ap, ◌∙◌, ⊎_elim, add-one, arith}
+use Rattle.std.proofs.Common.{◌≡◌, ℕ, zero, suc, ◌+◌, ◌/◌, ◌%◌, ◌^◌, ◌<◌, ◌≤◌, Bool, true, false, cond, not, ◌&&◌, eqb, List, length, take, get_or, sym, refl, ap, ◌∙◌, ⊎_elim, zero-add, arith}
+use denote.Param.Members.{Mut}
+use denote.Ref.{Bor}
+use Rattle.std.specs.Fn.{CalledAt}
+use Rattle.std.specs.List.{filter, range_with_len}
+use Rattle.std.specs.Iterator.{Drains}
+use Rattle.std.specs.Iterator.Adapters.{filter_source, filter_callee, filter_steps}
+use Rattle.std.specs.declared.ops.Range.{Range}
+use Rattle.std.specs.declared.iter.Filter.{Filter}
+use Rattle.std.proofs.iter.Yields.{nat_range_steps}
+use Rattle.std.proofs.lemmas.Iterator.{YieldsList-from_range}
+use Rattle.std.proofs.lemmas.Iterator.Consumers.{YieldsList-from_filter, count_from_yields_List}
+use Rattle.std.proofs.lemmas.List.{take_all}
+use Rattle.std.proofs.lemmas.List.Filters.{length-filter_more}
+use Rattle.std.proofs.lemmas.List.FromFn.{length-range_with_len, get_or-range_with_len}
 use mathlib.Core.Bool.{beq}
 use lib.Bits.{bit_xor}
 use Rattle.std.proofs.lemmas.Nat.{xor_shr, xor_mod, mod_below, shr_le}
@@ -66,17 +80,26 @@ differs true false e = refl
 differs false true e = refl
 differs false false e = absurd (false≢true (sym e))
 
-pub counted_none : (f : ℕ → Bool) → counted 0 f ≡ 0
+-- how many of the first i of n pages are in use
+counted_taken : (f : ℕ → Bool) (n i : ℕ) → i ≤ n → length (filter f (take i (range_with_len 0 n))) ≡ counted i f
 unfolding counted
-counted_none f = refl
+counted_taken f n zero h = refl
+counted_taken f n (suc i) h =
+    let pages = range_with_len 0 n in
+    let lt : i < n = omega arith in
+    let more : i + 1 ≡ suc i = omega arith in
+    let page : get_or pages i 0 ≡ i = get_or-range_with_len 0 n i 0 lt ∙ zero-add i in
+    ap (λ k. length (filter f (take k pages))) (sym more)
+    ∙ length-filter_more f pages i 0 (omega (arith, length-range_with_len 0 n))
+    ∙ ap (λ k. length (filter f (take i pages)) + cond (f k) 1 0) page
+    ∙ ap (λ k. k + cond (f i) 1 0) (counted_taken f n i (omega arith))
 
-counted_more : (n : ℕ) (f : ℕ → Bool) → counted (n + 1) f ≡ counted n f + cond (f n) 1 0
-unfolding counted
-counted_more n f = rw add-one
-
--- one page more
-pub count_step : (n t one : ℕ) (f : ℕ → Bool) (u : Bool) → t ≡ counted n f → u ≡ f n → one ≡ cond u 1 0 → t + one ≡ counted (n + 1) f
-count_step n t one f u e g h =
-    let q : cond {A = ℕ} u 1 0 ≡ cond (f n) 1 0 = ap (λ b. cond b 1 0) g in
-    let k = counted_more n f in
-    cc
+-- a count of the pages below n for which the closure told f
+module _ {F : Type 0} (g : Mut F (Bor ℕ × Unit {0}) Bool) (f : ℕ → Bool) (n : ℕ) (s : Filter (Range ℕ) F) (callee : F)
+    (source : filter_source s ≡ record { start = 0; end = n }) (closure : filter_callee s ≡ callee)
+    (told : (x : ℕ) (b : Bool) (q : F) → CalledAt g callee x b q → (q ≡ callee) × (b ≡ f x)) where
+  pub pages_counted : (r : ℕ) → ((xs : List ℕ) × Drains (filter_steps nat_range_steps g) s xs × (r ≡ length xs)) → r ≡ counted n f
+  pages_counted r ran =
+      count_from_yields_List s r ran (YieldsList-from_filter g f (YieldsList-from_range 0 n n source (omega arith)) closure told)
+      ∙ ap (λ pages. length (filter f pages)) (sym (take_all n (range_with_len 0 n) (omega (arith, length-range_with_len 0 n))))
+      ∙ counted_taken f n n (omega arith)

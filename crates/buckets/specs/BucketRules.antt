@@ -1,7 +1,8 @@
 -- The rules of a bucket page by its bytes, as the check goes through them.
-use Rattle.std.specs.Prelude.{◌≡◌, ℕ, ◌+◌, ◌*◌, ◌<◌, ◌≤◌, List, Some, ◌≢◌, slice_index}
+use Rattle.std.specs.Prelude.{◌≡◌, ℕ, ◌+◌, ◌*◌, ◌<◌, ◌≤◌, min, List, Some, ◌≢◌, slice_index}
 use Rattle.kinds.specs.Meaning.{Meaning}
 use Rattle.buckets.specs.Bucket.{record_at}
+use Rattle.buckets.specs.Firsts.{FirstWith}
 
 -- the number of records that a page names
 abbrev pub count_of : List ℕ → ℕ
@@ -17,6 +18,10 @@ pub record Header (m : Meaning) (level : ℕ) (page : List ℕ) : Type 0 where
 -- record i is a record of the kind, and its keys are as they must be
 abbrev pub Valid : Meaning → (List ℕ → Type 0) → List ℕ → ℕ → Type 0
 Valid m Right page i = (ks : List ℕ) × (m.read (record_at m page i) ≡ Some ks) × Right ks
+
+-- record i is valid, and the first of the page with its keys
+abbrev pub FirstRight : Meaning → (List ℕ → Type 0) → List ℕ → ℕ → Type 0
+FirstRight m Right page i = (ks : List ℕ) × Right ks × FirstWith (λ k. m.read (record_at m page k) ≡ Some ks) (min (count_of page) m.capacity) (Some i)
 
 -- all records are valid, and no two have equal keys
 pub record RecordsValid (m : Meaning) (Right : List ℕ → Type 0) (page : List ℕ) : Type 0 where

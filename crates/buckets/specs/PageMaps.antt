@@ -1,5 +1,5 @@
 -- Which pages are in use.
-use Rattle.std.specs.Prelude.{◌≡◌, ℕ, zero, suc, ◌+◌, ◌/◌, ◌%◌, ◌^◌, ◌<◌, ◌≤◌, min, Bool, true, false, cond, Some, None, Ok, Err, Option, Result, ◌==◌, ◌≢◌, slice_index}
+use Rattle.std.specs.Prelude.{◌≡◌, ℕ, zero, suc, ◌+◌, ◌/◌, ◌%◌, ◌^◌, ◌<◌, ◌≤◌, min, Bool, true, false, if◌then◌else◌, Some, None, Ok, Err, Option, Result, ◌==◌, ◌≢◌, slice_index}
 use Rattle.buckets.specs.Firsts.{FirstWith}
 use Rattle.buckets.specs.declared.page_map.PageMap.{PageMap}
 
@@ -28,4 +28,4 @@ Taken m n after None = FirstWith (λ j. used m j ≡ false) (min n 32768) None �
 -- how many of the first n pages are in use
 unfoldable pub counted : ℕ → (ℕ → Bool) → ℕ
 counted zero f = 0
-counted (suc n) f = counted n f + cond (f n) 1 0
+counted (suc n) f = counted n f + (if f n then 1 else 0)

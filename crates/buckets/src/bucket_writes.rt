@@ -1,24 +1,17 @@
 // Bucket pages searched and changed.
-ghost use Rattle.std.specs.Prelude.{◌≡◌, ℕ, ◌≤◌, min, List, [], length, Some, slice_index, slice_index_or};
+ghost use Rattle.std.specs.Prelude.{◌≡◌, ℕ, ◌+◌, ◌<◌, ◌≤◌, ◌↔◌, min, List, [], length, IsTrue, slice_index_or};
 ghost use Rattle.kinds.specs.Meaning.{Meaning};
 ghost use Rattle.buckets.specs.Bucket.{BucketOf, record_at};
 ghost use Rattle.buckets.specs.BucketRules.{count_of};
 ghost use Rattle.buckets.specs.Firsts.{FirstWith};
 ghost use Rattle.buckets.specs.BucketWrites.{Added, TakenOut, Closed};
 
-use crate::bucket::has_keys;
+use crate::bucket::keys_at;
 use crate::bucket_faults::{NoSuchRecord, NotAdded};
 use kinds::Kind;
 
-// Makes the page an empty bucket page of this level.
+// Makes the page an empty bucket page of this level: the mark, no records and the level, and zeros behind them.
 pub fn start_bucket(level: u8, page: &mut [u8; 512])
-    ensures { (m : Meaning) → BucketOf m level [] page.new }
-{
-    write_header(level, page);
-}
-
-// The mark, no records and the level, and zeros behind them.
-fn write_header(level: u8, page: &mut [u8; 512])
     ensures { (m : Meaning) → BucketOf m level [] page.new }
 {
     *page = [0; 512];
@@ -35,17 +28,19 @@ pub fn record_count<K: Kind>(kind: &K, page: &[u8; 512]) -> usize
     (page[2] as usize).min(kind.capacity())
 }
 
+// Has the record at a place these keys?
+fn has_keys<K: Kind>(kind: &K, page: &[u8; 512], place: usize, keys: &[u32]) -> bool
+    ensures { place < (K.Kind.meaning kind.now).capacity → (IsTrue result ↔ ((K.Kind.meaning kind.now).read (record_at (K.Kind.meaning kind.now) page.now place) ≡ Some keys.now)) }
+{
+    keys_at(kind, page, place).is_some_and(|own| own.as_slice() == keys)
+}
+
 // Where a record with these keys stands, the first one.
 pub fn place_of<K: Kind>(kind: &K, page: &[u8; 512], keys: &[u32]) -> Option<usize>
     ensures any { FirstWith (λ i. (K.Kind.meaning kind.now).read (record_at (K.Kind.meaning kind.now) page.now i) ≡ Some keys.now) (min (count_of page.now) (K.Kind.meaning kind.now).capacity) result }
     ensures listed { (level : ℕ) (rs : List (List ℕ)) → BucketOf (K.Kind.meaning kind.now) level rs page.now → FirstWith (λ i. (K.Kind.meaning kind.now).read (slice_index_or rs i []) ≡ Some keys.now) (length rs) result }
 {
-    for i in 0..record_count(kind, page) {
-        if has_keys(kind, page, i, keys) {
-            return Some(i);
-        }
-    }
-    None
+    (0..record_count(kind, page)).find(|place| has_keys(kind, page, *place, keys))
 }
 
 // Adds a record behind the others.
@@ -66,22 +61,13 @@ pub fn add_record<K: Kind>(kind: &K, page: &mut [u8; 512], bytes: &[u8]) -> Resu
     Ok(())
 }
 
-// The byte at a place; past the end, zero.
-fn byte_or_zero(page: &[u8; 512], place: usize) -> u8
-    ensures { result ≡ slice_index page.now place }
-{
-    if place < 512 { page[place] } else { 0 }
-}
-
 // Moves what stands behind a gap of so many bytes up to its start.
 fn close_gap(page: &mut [u8; 512], start: usize, size: usize)
-    requires { size ≤ 512 }
+    requires { start + size ≤ 512 }
     ensures { Closed page.old start size page.new }
 {
-    for k in start..512 {
-        let byte = byte_or_zero(page, k + size);
-        page[k] = byte;
-    }
+    page.copy_within(start + size.., start);
+    page[512 - size..].fill(0);
 }
 
 // Takes out the record at a place, and moves those behind it up.

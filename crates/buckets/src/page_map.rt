@@ -5,5 +5,5 @@ pub struct PageMap {
 }
 
 // The map has no such page.
-#[derive(Clone, Copy)]
+#[derive(Clone, Copy, Debug, PartialEq, Eq)]
 pub struct PastMap;

@@ -1,5 +1,5 @@
 // Pages taken and given back.
-ghost use Rattle.std.specs.Prelude.{◌≡◌, ℕ, ◌<◌, ◌≤◌, min, Bool, true, false, if◌then◌else◌, ◌≢◌};
+ghost use Rattle.std.specs.Prelude.{◌≡◌, ℕ, ◌<◌, min, true, false, ◌≢◌};
 ghost use Rattle.buckets.specs.Firsts.{FirstWith};
 ghost use Rattle.buckets.specs.PageMaps.{bit, used, counted, OnlyAt, Marked, Taken};
 
@@ -25,13 +25,6 @@ fn with_bit(byte: u8, i: usize, value: bool) -> u8
     byte ^ (1 << i)
 }
 
-fn one_if(test: bool) -> usize
-    ensures is { result ≡ (if test then 1 else 0) }
-    ensures small { result ≤ 1 }
-{
-    if test { 1 } else { 0 }
-}
-
 impl PageMap {
     // All pages are free.
     pub fn new() -> PageMap
@@ -44,33 +37,23 @@ impl PageMap {
     pub fn is_used(&self, page: usize) -> bool
         ensures { result ≡ used self.now page }
     {
-        if page >= 32768 {
-            return false;
-        }
-        has_bit(self.bits[page / 8], page % 8)
+        self.bits
+            .get(page / 8)
+            .is_some_and(|byte| has_bit(*byte, page % 8))
     }
 
     // How many pages are in use.
     pub fn count(&self) -> usize
         ensures { result ≡ counted 32768 (used self.now) }
     {
-        let mut total = 0;
-        for page in 0..32768 {
-            total += one_if(self.is_used(page));
-        }
-        total
+        (0..32768).filter(|page| self.is_used(*page)).count()
     }
 
     // The first free one of so many pages.
     fn lowest_free(&self, pages: usize) -> Option<usize>
         ensures { FirstWith (λ j. used self.now j ≡ false) (min pages 32768) result }
     {
-        for page in 0..pages.min(32768) {
-            if !self.is_used(page) {
-                return Some(page);
-            }
-        }
-        None
+        (0..pages.min(32768)).find(|page| !self.is_used(*page))
     }
 
     fn set(&mut self, page: usize, value: bool)
@@ -82,26 +65,29 @@ impl PageMap {
         self.bits[place] = byte;
     }
 
-    // Marks a page as in use.
-    pub fn mark(&mut self, page: usize) -> Result<(), PastMap>
-        ensures { Marked self.old page true self.new result }
+    // Marks a page as in use or as free.
+    fn put(&mut self, page: usize, value: bool) -> Result<(), PastMap>
+        ensures { Marked self.old page value self.new result }
     {
         if page >= 32768 {
             return Err(PastMap);
         }
-        self.set(page, true);
+        self.set(page, value);
         Ok(())
+    }
+
+    // Marks a page as in use.
+    pub fn mark(&mut self, page: usize) -> Result<(), PastMap>
+        ensures { Marked self.old page true self.new result }
+    {
+        self.put(page, true)
     }
 
     // Marks a page as free.
     pub fn give_back(&mut self, page: usize) -> Result<(), PastMap>
         ensures { Marked self.old page false self.new result }
     {
-        if page >= 32768 {
-            return Err(PastMap);
-        }
-        self.set(page, false);
-        Ok(())
+        self.put(page, false)
     }
 
     // Takes the first free one of so many pages.

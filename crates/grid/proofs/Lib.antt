@@ -6,5 +6,8 @@ mod OfFresh
 mod OfLists
 mod OfWalks
 mod Parts
+mod Passes
 mod Roots
 mod Sited
+mod Somes
+mod Walked

@@ -1,5 +1,5 @@
 -- What the walks read, over pages that stand for a set.
-use Rattle.std.proofs.Common.{◌≡◌, ℕ, ◌-◌, ◌*◌, ◌^◌, ◌≤◌, min, Bool, true, ◌&&◌, List, [], ◌∷◌, length, get_or, Some, Ok, filter, Result, sym, refl, ap, ◌∙◌, subst, ap₂, subst₂, inl, inr, arith}
+use Rattle.std.proofs.Common.{◌≡◌, ℕ, ◌+◌, ◌-◌, ◌*◌, ◌^◌, ◌≤◌, min, true, ◌&&◌, List, [], ◌∷◌, length, get_or, Some, sym, refl, ◌∙◌, subst, ap₂, subst₂, inl, inr, arith}
 use Rattle.std.proofs.lemmas.Nat.{mul-le}
 use Rattle.std.proofs.lemmas.List.{length-map}
 use Rattle.std.proofs.lemmas.Bool.{and_parts}
@@ -24,7 +24,6 @@ use Rattle.promise.specs.Calls.{Holds, between, in_range}
 use Rattle.promise.specs.Determined.{keys_of, points}
 use Rattle.promise.specs.State.{State, size_of, page, root_pages, box_around, BucketBytes, DirectoryBytes, DirectoryAt}
 use Rattle.promise.specs.declared.memory.Memory.{Memory}
-use Rattle.promise.specs.declared.refusal.Refusal.{Refusal}
 use Rattle.promise.proofs.Pages.{Below, all_points, at}
 use Rattle.promise.proofs.Pages as pages
 use Rattle.grid.specs.Sites.{SiteAt}
@@ -80,10 +79,6 @@ module _ (m : Meaning) where
         (subst₂ (λ (ws ord : List ℕ). Lies ws ord (box_of d.inner) ks) kd.0 kd.1 low.1) (subst (λ (b : Path). around b (box_of g) ≡ true) same a) in
         (found.0, subst₂ (λ (b : Path) (pg : ℕ). BucketBytes m b found.0 (page st pg)) (sym same) (sym site.page) found.1, found.2)
 
-    -- a bucket has few records
-    pub bucket_capped : (f : List ℕ → Bool) (b : Path) (rs : List (List ℕ)) (bytes : List ℕ) (n : ℕ) → BucketBytes m b rs bytes → tally f rs ≡ n → tally f rs ≡ capped n
-    bucket_capped f b rs bytes n k e = omega (arith, tally_le f rs, k.holds.few, capacity_small m law, e)
-
     -- the directory box at a box's lowest corner, by the root image in memory
     module _ (mem : Memory) (is : st.memory ≡ Some mem) (g : GridBox) (kg : OfKind m g.space.now) (space : g.space.now ≡ mem.space) (site : Site)
         (k : SiteAt mem.space mem.pages (tile_at (image_of mem.root) (lows_of g)) (lows_of g) site) where
@@ -132,14 +127,10 @@ module _ (m : Meaning) where
         omega (arith, once, sum, most, tally_all ps, length-map (points m held) (path ws ord), length-map held (keys_of m))
 
     -- the count over the whole space is that of the range
-    pub counted_whole : Below → (ls hs lo hi : List ℕ) (b : Path) (r : Result ℕ Refusal) → lo ≡ ls → hi ≡ hs → b ≡ [] → r ≡ Ok (capped (tally (wanted m lo hi b) held))
-        → r ≡ Ok (length (in_range m ls hs held))
-    counted_whole below ls hs lo hi b r e f k c =
+    pub number_whole : Below → (ls hs : List ℕ) (n : ℕ) → n ≡ capped (0 + tally (wanted m ls hs []) held) → n ≡ length (in_range m ls hs held)
+    number_whole below ls hs n e =
         let test = λ (x : List ℕ). between ls hs (keys_of m x) in
-        let small : capped (tally test held) ≡ length (filter test held) = omega (arith, tally_length test held, tally_le test held, held_few below) in
-        c ∙ ap {B = Result ℕ Refusal} (λ (us : List ℕ). Ok (capped (tally (wanted m us hi b) held))) e
-        ∙ ap {B = Result ℕ Refusal} (λ (us : List ℕ). Ok (capped (tally (wanted m ls us b) held))) f
-        ∙ ap {B = Result ℕ Refusal} (λ (d : Path). Ok (capped (tally (wanted m ls hs d) held))) k ∙ ap {B = Result ℕ Refusal} (λ (n : ℕ). Ok n) small
+        omega (arith, e, tally_length test held, tally_le test held, held_few below)
 
     -- and so many bytes are its records
     pub needed_is : Below → (ls hs : List ℕ) (z number needed : ℕ) → z ≡ m.size → number ≡ length (in_range m ls hs held) → needed ≡ min (z * number) (2 ^ 64 - 1)

@@ -1,5 +1,6 @@
 -- Records written side by side.
-use Rattle.std.proofs.Common.{◌≡◌, ℕ, suc, ◌+◌, ◌*◌, ◌<◌, ◌≤◌, Bool, true, false, cond, ◌&&◌, List, [], ◌∷◌, ◌++◌, length, get_or, take, drop, filter, sym, refl, ap, ◌∙◌, subst, ap₂, inl, inr, append_assoc, append-nil, arith, length-append, take-append-drop, length-take}
+use Rattle.std.proofs.Common.{◌≡◌, ℕ, suc, ◌+◌, ◌*◌, ◌<◌, ◌≤◌, Bool, true, false, cond, ◌&&◌, List, [], ◌∷◌, ◌++◌, length, get_or, take, drop, filter, Some, None, Option, MatchOption, sym, refl, ap, ◌∙◌, subst, ap₂, inl, inr, append_assoc, append-nil, arith, length-append, take-append-drop, length-take}
+use Rattle.std.specs.Option.{unwrap_or}
 use borrow.Rule.Slice.PartMut.{put_mid}
 use Rattle.std.proofs.lemmas.List.Elements.{filter_more}
 use Rattle.std.proofs.lemmas.List.{drop-drop, length-take-le}
@@ -54,6 +55,12 @@ written_part start k old bytes part room e p =
       omega (arith, ap length front, length-append (take start old) part, length-take-le start old (omega arith), length-take (start + length bytes) (put_mid start k old part)),
       (refl, front ∙ ap (λ (z : List ℕ). take start old ++ z) p, rest),
     )
+
+-- where there is room, they are written
+pub put_there : (o : Option ℕ) (start : ℕ) (bytes old new : List ℕ) → MatchOption o (length old < start + length bytes) (λ end. Written start bytes end old new)
+    → start + length bytes ≤ length old → Written start bytes (unwrap_or o start) old new
+put_there None start bytes old new short room = absurd (omega arith)
+put_there (Some end) start bytes old new w room = w
 
 -- one record more of a page
 module _ (f : List ℕ → Bool) (rs : List (List ℕ)) (i : ℕ) (here : i < length rs) where

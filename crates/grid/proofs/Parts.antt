@@ -3,8 +3,15 @@ use Rattle.std.proofs.Common.{◌≡◌, ℕ, zero, suc, ◌+◌, ◌*◌, ◌<�
 use Rattle.std.proofs.lemmas.List.{drop-drop}
 use Rattle.std.proofs.lemmas.Bool.{cases_eq}
 use Rattle.images.specs.Bytes.{joined}
+use Rattle.std.specs.Simd.{first_chunks}
 use Rattle.stores.specs.Pages.{Stored}
 use Rattle.stores.specs.declared.NoSuchPage.{NoSuchPage}
+
+-- a chunk of 512 bytes
+pub chunk_at : (k i : ℕ) (xs : List ℕ) (d : List ℕ) → i < k → get_or (first_chunks 512 k xs) i d ≡ take 512 (drop (512 * i) xs)
+chunk_at zero i xs d h = absurd (omega arith)
+chunk_at (suc k) zero xs d h = refl
+chunk_at (suc k) (suc i) xs d h = chunk_at k i (drop 512 xs) d (omega arith) ∙ ap (take 512) (drop-drop (512 * i) 512 xs ∙ ap (λ j. drop j xs) (omega arith))
 
 -- the first n pages are the first n parts of the bytes, and the others are as they were
 pub record Parted (ps : List (List ℕ)) (bytes : List ℕ) (n : ℕ) (qs : List (List ℕ)) : Type 0 where

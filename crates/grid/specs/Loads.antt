@@ -7,18 +7,18 @@ use Rattle.boxes.specs.Spaces.{widths_of, order_of}
 use Rattle.buckets.specs.Bucket.{IsBucketIn}
 use Rattle.images.specs.Directory.{Image, Tile, tile_at, DirectoryPage}
 use Rattle.images.specs.Memory.{image_of}
-use Rattle.images.specs.declared.held_image.HeldImage.{HeldImage}
 use Rattle.kinds.specs.Meaning.{Meaning}
 use Rattle.promise.specs.declared.memory.Memory.{Memory}
 use Rattle.promise.specs.declared.refusal.Refusal.{Refusal}
 use Rattle.promise.specs.declared.refusal.Refusal.TheVariants.{BadKeys, BrokenPage}
 use Rattle.grid.specs.Sites.{SiteAt}
+use Rattle.grid.specs.declared.opened.Opened.{Opened}
 use Rattle.grid.specs.declared.site.Site.{Site}
 
--- the image that the bytes are, a directory page of the box in a store of n pages; or they are none
-abbrev pub DirectoryLoaded : {E C : ℕ} → ℕ → Site → List ℕ → Result (HeldImage E C) Refusal → Type 0
-DirectoryLoaded n t bytes (Ok d) = DirectoryPage (widths_of t.inner.space.now) (order_of t.inner.space.now) n (box_of t.inner) (image_of d) bytes
-DirectoryLoaded n t bytes (Err e) = (e ≡ BrokenPage t.page)
+-- the box with the image that the bytes are, a directory page of the box in a store of n pages; or they are none
+abbrev pub DirectoryOpened : ℕ → Site → List ℕ → Result Opened Refusal → Type 0
+DirectoryOpened n t bytes (Ok d) = (d.inner ≡ t.inner) × (d.pages ≡ n) × DirectoryPage (widths_of t.inner.space.now) (order_of t.inner.space.now) n (box_of t.inner) (image_of d.image) bytes
+DirectoryOpened n t bytes (Err e) = (e ≡ BrokenPage t.page)
     × ((img : Image) → DirectoryPage (widths_of t.inner.space.now) (order_of t.inner.space.now) n (box_of t.inner) img bytes → ⊥)
 
 -- the buffer holds the bytes; they are a bucket page of the box, or none

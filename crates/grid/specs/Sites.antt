@@ -1,5 +1,5 @@
 -- Boxes with their pages.
-use Rattle.std.specs.Prelude.{◌≡◌, ℕ, ◌<◌, List, Some, None, Option}
+use Rattle.std.specs.Prelude.{◌≡◌, ℕ, ◌<◌, ◌≤◌, List, length, Some, None, Option}
 use Rattle.boxes.specs.GridBoxes.{IsBox}
 use Rattle.boxes.specs.Points.{Point}
 use Rattle.boxes.specs.Space.{box_at}
@@ -7,6 +7,7 @@ use Rattle.boxes.specs.Spaces.{widths_of, order_of}
 use Rattle.boxes.specs.declared.space.Space.{Space}
 use Rattle.images.specs.Directory.{Tile, tile_at}
 use Rattle.images.specs.Memory.{image_of}
+use Rattle.images.specs.declared.held_image.HeldImage.{HeldImage}
 use Rattle.promise.specs.declared.memory.Memory.{Memory}
 use Rattle.grid.specs.declared.site.Site.{Site}
 
@@ -15,6 +16,11 @@ pub record SiteAt (s : Space) (n : ℕ) (t : Tile) (ks : List ℕ) (site : Site)
   pub box : IsBox s (box_at (widths_of s) (order_of s) t.level ks) site.inner
   pub page : site.page ≡ t.page
   pub stored : site.page < n
+
+-- the box of the level that the image's cell names around the point ks, and the page that it names; none exactly where ks are no keys of the image, or no box of the space has that level around them
+abbrev pub SiteOf : {E C : ℕ} → Space → HeldImage E C → List ℕ → Option Site → Type 0
+SiteOf s d ks None = (length ks ≡ d.keys) × ((tile_at (image_of d) ks).level ≤ s.depth) × Point (widths_of s) ks → ⊥
+SiteOf s d ks (Some site) = Point (widths_of s) ks × IsBox s (box_at (widths_of s) (order_of s) (tile_at (image_of d) ks).level ks) site.inner × (site.page ≡ (tile_at (image_of d) ks).page)
 
 -- what the root image in memory names at the point ks; none exactly where ks is no point
 abbrev pub DirectorySite : Memory → List ℕ → Option Site → Type 0

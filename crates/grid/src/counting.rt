@@ -3,8 +3,8 @@ ghost use Rattle.promise.specs.Calls.{Counts};
 ghost use Rattle.grid.specs.Grids.{state};
 
 use crate::grid::Grid;
-use crate::walking::count_directories;
-use boxes::{GridBox, KeyRange, laws_stand};
+use crate::passed::Passed;
+use boxes::laws_stand;
 use buckets::bucket_laws_stand;
 use kinds::Kind;
 use promise::Refusal;
@@ -22,13 +22,8 @@ impl<K: Kind> Grid<K> {
     {
         let _ = laws_stand();
         let _ = bucket_laws_stand();
-        let Some(memory) = self.memory_over(store.count()) else {
-            return Err(Refusal::WrongStore);
-        };
-        let Some(range) = KeyRange::new(&memory.space, lowest, highest) else {
-            return Err(Refusal::BadKeys);
-        };
-        let whole = GridBox::whole(&memory.space);
-        count_directories(&self.kind, store, &range, memory, &whole)
+        let walk = self.walk_over(store, lowest, highest)?;
+        let passed = walk.pass_directories(store, &mut [], Passed::NOTHING)?;
+        Ok(passed.number)
     }
 }

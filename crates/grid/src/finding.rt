@@ -25,20 +25,12 @@ impl<K: Kind> Grid<K> {
     {
         let _ = image_laws_stand();
         let _ = find_has_one_answer();
-        let Some(memory) = self.memory_over(store.count()) else {
-            return Err(Refusal::WrongStore);
-        };
+        let memory = self.memory_over(store.count())?;
+        let leaf = locate_leaf(memory, store, keys)?;
         let mut page = [0; 512];
-        match locate_leaf(memory, store, keys) {
-            Ok(leaf) => match load_bucket(&self.kind, store, &leaf, &mut page) {
-                Ok(()) => {
-                    *buffer = page;
-                    Ok(place_of(&self.kind, &page, keys))
-                }
-                Err(refusal) => Err(refusal),
-            },
-            Err(refusal) => Err(refusal),
-        }
+        load_bucket(&self.kind, store, &leaf, &mut page)?;
+        *buffer = page;
+        Ok(place_of(&self.kind, &page, keys))
     }
 }
 
@@ -50,8 +42,5 @@ pub fn hand_out<'a, K: Kind>(
 ) -> Result<&'a [u8], Refusal>
     ensures { HandsOut (λ x. x.now) (K.Kind.meaning kind.now) buffer.now place result }
 {
-    match record_at(kind, buffer, place) {
-        Some(record) => Ok(record),
-        None => Err(Refusal::BadKeys),
-    }
+    record_at(kind, buffer, place).ok_or(Refusal::BadKeys)
 }

@@ -9,11 +9,12 @@ mod loading;
 mod locating;
 mod making;
 mod opened;
+mod passed;
 mod root_pages;
 mod shaping;
 mod site;
+mod walk;
 mod walking;
-mod writing;
 
 pub use finding::hand_out;
 pub use grid::Grid;

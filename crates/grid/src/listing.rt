@@ -3,9 +3,8 @@ ghost use Rattle.promise.specs.Calls.{Lists};
 ghost use Rattle.grid.specs.Grids.{state};
 
 use crate::grid::Grid;
-use crate::walking::count_directories;
-use crate::writing::write_directories;
-use boxes::{GridBox, KeyRange, laws_stand};
+use crate::passed::Passed;
+use boxes::laws_stand;
 use buckets::bucket_laws_stand;
 use kinds::Kind;
 use promise::Refusal;
@@ -25,23 +24,14 @@ impl<K: Kind> Grid<K> {
     {
         let _ = laws_stand();
         let _ = bucket_laws_stand();
-        let Some(memory) = self.memory_over(store.count()) else {
-            return Err(Refusal::WrongStore);
-        };
-        let Some(range) = KeyRange::new(&memory.space, lowest, highest) else {
-            return Err(Refusal::BadKeys);
-        };
-        let whole = GridBox::whole(&memory.space);
-        match count_directories(&self.kind, store, &range, memory, &whole) {
-            Ok(number) => {
-                let needed = self.kind.size().saturating_mul(number);
-                if buffer.len() < needed {
-                    return Err(Refusal::ShortBuffer(needed));
-                }
-                write_directories(&self.kind, store, &range, memory, &whole, buffer, 0);
-                Ok(number)
-            }
-            Err(refusal) => Err(refusal),
+        let walk = self.walk_over(store, lowest, highest)?;
+        let counted = walk.pass_directories(store, &mut [], Passed::NOTHING)?;
+        let needed = self.kind.size().saturating_mul(counted.number);
+        if buffer.len() < needed {
+            return Err(Refusal::ShortBuffer(needed));
         }
+        // Over pages that stand for a set this walk is not refused; over others its refusal could not leave the buffer as it was.
+        let _ = walk.pass_directories(store, buffer, Passed::NOTHING);
+        Ok(counted.number)
     }
 }

@@ -22,7 +22,7 @@ fn first_pages() -> PageMap
 {
     let mut map = PageMap::new();
     for page in 0..10 {
-        let _ = map.mark(page);
+        map.mark(page).unwrap();
     }
     map
 }
@@ -34,9 +34,7 @@ fn fresh_memory(space: Space, pages: usize) -> Memory
     ensures { FreshMemory space pages result }
 {
     let _ = image_laws_stand();
-    let Some(root) = RootImage::of_one_cell(space.keys, Named { page: 8, level: 0 }) else {
-        unreachable()
-    };
+    let root = RootImage::of_one_cell(space.keys, Named { page: 8, level: 0 }).unwrap();
     Memory {
         pages,
         space,
@@ -55,16 +53,16 @@ fn write_fresh_pages<S: PageStore>(store: &mut S, memory: &Memory)
     let mut root = [0; 4096];
     write_root(&memory.root, &mut root);
     write_root_pages(store, &root);
-    let Some(image) = DirectoryImage::of_one_cell(memory.space.keys, Named { page: 9, level: 0 })
-    else {
-        unreachable()
-    };
+    let image = DirectoryImage::of_one_cell(
+        memory.space.keys,
+        Named { page: 9, level: 0 },
+    ).unwrap();
     let mut directory = [0; 512];
     write_directory(&image, 0, &mut directory);
-    let _ = store.write(8, &directory);
+    store.write(8, &directory).unwrap();
     let mut bucket = [0; 512];
     start_bucket(0, &mut bucket);
-    let _ = store.write(9, &bucket);
+    store.write(9, &bucket).unwrap();
 }
 
 impl<K: Kind> Grid<K> {

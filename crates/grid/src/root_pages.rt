@@ -9,9 +9,8 @@ pub(crate) fn write_root_pages<S: PageStore>(store: &mut S, bytes: &[u8; 4096])
     requires { 8 ≤ length (S.PageStore.pages store.old) }
     ensures { RootWritten (S.PageStore.pages store.old) bytes.now (S.PageStore.pages store.new) }
 {
-    for page in 0..8 {
-        let mut part = [0; 512];
-        part.copy_from_slice(&bytes[512 * page..512 * page + 512]);
-        let _ = store.write(page, &part);
+    let (parts, _) = bytes.as_chunks::<512>();
+    for (page, part) in parts.iter().enumerate() {
+        store.write(page, part).unwrap();
     }
 }

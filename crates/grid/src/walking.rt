@@ -1,175 +1,177 @@
-// The records in a range, counted box by box.
-ghost use Rattle.std.specs.Prelude.{◌≡◌, ℕ, ◌+◌, ◌<◌, List, [], length, Some, Ok, slice_index_or};
+// The records in a range, box by box: counted, and written where there is room for them.
+ghost use Rattle.std.specs.Prelude.{◌≡◌, ℕ, ◌+◌, ◌<◌, ◌≤◌, List, [], length, Some, Ok, IfOk, IfErr, MatchOption, slice_index_or};
 ghost use Rattle.boxes.specs.Cuts.{Path};
 ghost use Rattle.boxes.specs.GridBoxes.{box_of};
 ghost use Rattle.boxes.specs.KeyRanges.{lowest_of, highest_of};
-ghost use Rattle.boxes.specs.Leaves.{tally};
-ghost use Rattle.buckets.specs.Bucket.{record_at};
 ghost use Rattle.images.specs.Memory.{image_of};
 ghost use Rattle.promise.specs.State.{BucketBytes};
-ghost use Rattle.grid.specs.Walks.{wanted, capped, OfKind, Under, Over, Counted, CountedUnder};
+ghost use Rattle.grid.specs.Grids.{state};
+ghost use Rattle.grid.specs.Walks.{wanted, OfKind, Under, Written, PassedBucket, Passes, PassesUnder, Begun, NotBegun};
 
-use crate::loading::{leaf_site, load_bucket, load_directory};
+use crate::grid::Grid;
+use crate::loading::{load_bucket, open_directory};
 use crate::locating::directory_site;
 use crate::opened::Opened;
+use crate::passed::Passed;
 use crate::site::Site;
+use crate::walk::Walk;
 use boxes::{GridBox, KeyRange, laws_stand};
 use buckets::{bucket_laws_stand, record_at, record_count};
 use kinds::Kind;
-use promise::{Memory, Refusal};
+use promise::Refusal;
 use stores::PageStore;
 
-// Of a record at a place of a page: does it lie in the box and in the range?
-pub(crate) fn is_wanted<K: Kind>(
-    kind: &K,
-    range: &KeyRange,
-    inner: &GridBox,
-    page: &[u8; 512],
-    place: usize,
-) -> bool
-    requires range { OfKind (K.Kind.meaning kind.now) range.now.space.now }
-    requires inner { OfKind (K.Kind.meaning kind.now) inner.now.space.now }
-    ensures { place < (K.Kind.meaning kind.now).capacity → (ks : List ℕ) → (K.Kind.meaning kind.now).read (record_at (K.Kind.meaning kind.now) page.now place) ≡ Some ks → result ≡ wanted (K.Kind.meaning kind.now) (lowest_of range.now) (highest_of range.now) (box_of inner.now) (record_at (K.Kind.meaning kind.now) page.now place) }
+// Writes the bytes into the buffer from `start` on, and answers where they end; nothing where there is no room for them.
+fn put(buffer: &mut [u8], start: usize, bytes: &[u8]) -> Option<usize>
+    ensures { MatchOption result (length buffer.old < start + length bytes.now) (λ end. Written start bytes.now end buffer.old buffer.new) }
 {
-    let Some(record) = record_at(kind, page, place) else {
-        return false;
-    };
-    match kind.keys(record) {
-        Some(keys) => inner.contains(keys.as_slice()) && range.contains(keys.as_slice()),
-        None => false,
+    let end = start.saturating_add(bytes.len());
+    if end > buffer.len() {
+        return None;
     }
+    buffer[start..end].copy_from_slice(bytes);
+    Some(end)
 }
 
-// How many records of a bucket page lie in the box and in the range.
-fn count_records<K: Kind>(kind: &K, range: &KeyRange, inner: &GridBox, page: &[u8; 512]) -> usize
-    requires range { OfKind (K.Kind.meaning kind.now) range.now.space.now }
-    requires inner { OfKind (K.Kind.meaning kind.now) inner.now.space.now }
-    ensures { (b : Path) (rs : List (List ℕ)) → BucketBytes (K.Kind.meaning kind.now) b rs page.now → result ≡ tally (wanted (K.Kind.meaning kind.now) (lowest_of range.now) (highest_of range.now) (box_of inner.now)) rs }
-{
-    let _ = bucket_laws_stand();
-    let mut count = 0;
-    for i in 0..record_count(kind, page) {
-        if is_wanted(kind, range, inner, page, i) {
-            count += 1;
+impl<'a, K: Kind> Walk<'a, K> {
+    // The same walk at another box of the space.
+    fn at(&self, inner: GridBox<'a>) -> Walk<'a, K>
+        requires { inner.space.now ≡ self.now.memory.now.space }
+        ensures kind { result.kind ≡ self.now.kind }
+        ensures memory { result.memory ≡ self.now.memory }
+        ensures range { result.range ≡ self.now.range }
+        ensures inner { result.inner ≡ inner.entry }
+    {
+        Walk {
+            kind: self.kind,
+            memory: self.memory,
+            range: self.range,
+            inner,
         }
     }
-    count
+
+    // Does the record lie in the box and in the range?
+    fn wants(&self, bytes: &[u8]) -> bool
+        ensures { (ks : List ℕ) → (K.Kind.meaning self.now.kind.now).read bytes.now ≡ Some ks → result ≡ wanted (K.Kind.meaning self.now.kind.now) (lowest_of self.now.range) (highest_of self.now.range) (box_of self.now.inner) bytes.now }
+    {
+        // By `match`: in a closure of `is_some_and` the search finds no proof.
+        match self.kind.keys(bytes) {
+            Some(keys) => {
+                self.inner.contains(keys.as_slice()) && self.range.contains(keys.as_slice())
+            }
+            None => false,
+        }
+    }
+
+    // Passes the records of a bucket page that lie in the box and in the range.
+    fn pass_records(&self, page: &[u8; 512], buffer: &mut [u8], so_far: Passed) -> Passed
+        ensures { (b : Path) (rs : List (List ℕ)) → BucketBytes (K.Kind.meaning self.now.kind.now) b rs page.now → PassedBucket (wanted (K.Kind.meaning self.now.kind.now) (lowest_of self.now.range) (highest_of self.now.range) (box_of self.now.inner)) rs so_far buffer.old result buffer.new }
+    {
+        let _ = bucket_laws_stand();
+        let mut number = so_far.number;
+        let mut end = so_far.end;
+        // By place, since that is what a bucket page knows its records by.
+        for place in 0..record_count(self.kind, page) {
+            let record = record_at(self.kind, page, place).unwrap();
+            if self.wants(record) {
+                number = number.saturating_add(1);
+                end = put(buffer, end, record).unwrap_or(end);
+            }
+        }
+        Passed { number, end }
+    }
+
+    // Passes the records of a leaf's bucket page that lie in the box and in the range.
+    fn pass_bucket<S: PageStore>(
+        &self,
+        store: &mut S,
+        leaf: &Site,
+        buffer: &mut [u8],
+        so_far: Passed,
+    ) -> Result<Passed, Refusal>
+        requires leaf { OfKind (K.Kind.meaning self.now.kind.now) leaf.now.inner.space.now }
+        requires stored { leaf.now.page < length (S.PageStore.pages store.old) }
+        ensures kept { S.PageStore.pages store.new ≡ S.PageStore.pages store.old }
+        ensures passed { (rs : List (List ℕ)) → BucketBytes (K.Kind.meaning self.now.kind.now) (box_of leaf.now.inner) rs (slice_index_or (S.PageStore.pages store.old) leaf.now.page []) → (p : Passed) × (result ≡ Ok p) × PassedBucket (wanted (K.Kind.meaning self.now.kind.now) (lowest_of self.now.range) (highest_of self.now.range) (box_of self.now.inner)) rs so_far buffer.old p buffer.new }
+    {
+        let mut page = [0; 512];
+        load_bucket(self.kind, store, leaf, &mut page)?;
+        Ok(self.pass_records(&page, buffer, so_far))
+    }
+
+    // Passes the records that lie in the box and in the range, by the image of a directory box around the box.
+    fn pass_leaves<S: PageStore>(
+        &self,
+        store: &mut S,
+        directory: &Opened,
+        buffer: &mut [u8],
+        so_far: Passed,
+    ) -> Result<Passed, Refusal>
+        requires { Under (length (S.PageStore.pages store.old)) directory.now self.now.inner }
+        ensures kept { S.PageStore.pages store.new ≡ S.PageStore.pages store.old }
+        ensures passed { PassesUnder (K.Kind.meaning self.now.kind.now) (S.PageStore.pages store.old) (lowest_of self.now.range) (highest_of self.now.range) (box_of directory.now.inner) (image_of directory.now.image) (box_of self.now.inner) so_far buffer.old result buffer.new }
+    {
+        if !self.range.meets(&self.inner) {
+            return Ok(so_far);
+        }
+        let leaf = directory.leaf_at(&self.inner.low[..self.inner.space.keys]);
+        if leaf.inner.level <= self.inner.level {
+            return self.pass_bucket(store, &leaf, buffer, so_far);
+        }
+        let (lower, upper) = self.inner.halves().unwrap();
+        let middle = self
+            .at(lower)
+            .pass_leaves(store, directory, buffer, so_far)?;
+        self.at(upper).pass_leaves(store, directory, buffer, middle)
+    }
+
+    // Passes the records that lie in the box and in the range, by the root image in memory.
+    // The walk below a directory box is a function of its own: there the boxes come from a page that has been read.
+    pub(crate) fn pass_directories<S: PageStore>(
+        &self,
+        store: &mut S,
+        buffer: &mut [u8],
+        so_far: Passed,
+    ) -> Result<Passed, Refusal>
+        requires { self.now.memory.now.pages ≡ length (S.PageStore.pages store.old) }
+        ensures kept { S.PageStore.pages store.new ≡ S.PageStore.pages store.old }
+        ensures passed { Passes (K.Kind.meaning self.now.kind.now) (S.PageStore.pages store.old) self.now.memory.now (lowest_of self.now.range) (highest_of self.now.range) (box_of self.now.inner) so_far buffer.old result buffer.new }
+    {
+        let _ = laws_stand();
+        let _ = bucket_laws_stand();
+        if !self.range.meets(&self.inner) {
+            return Ok(so_far);
+        }
+        let low = &self.inner.low[..self.inner.space.keys];
+        let directory = directory_site(self.memory, low).unwrap();
+        if directory.inner.level <= self.inner.level {
+            let opened = open_directory(store, self.memory.pages, &directory)?;
+            return self.pass_leaves(store, &opened, buffer, so_far);
+        }
+        let (lower, upper) = self.inner.halves().unwrap();
+        let middle = self.at(lower).pass_directories(store, buffer, so_far)?;
+        self.at(upper).pass_directories(store, buffer, middle)
+    }
 }
 
-// How many records of a leaf's bucket page lie in the box and in the range.
-fn count_bucket<K: Kind, S: PageStore>(
-    kind: &K,
-    store: &mut S,
-    range: &KeyRange,
-    leaf: &Site,
-    inner: &GridBox,
-) -> Result<usize, Refusal>
-    requires range { OfKind (K.Kind.meaning kind.now) range.now.space.now }
-    requires inner { OfKind (K.Kind.meaning kind.now) inner.now.space.now }
-    requires leaf { OfKind (K.Kind.meaning kind.now) leaf.now.inner.space.now }
-    requires stored { leaf.now.page < length (S.PageStore.pages store.old) }
-    ensures kept { S.PageStore.pages store.new ≡ S.PageStore.pages store.old }
-    ensures counted { (rs : List (List ℕ)) → BucketBytes (K.Kind.meaning kind.now) (box_of leaf.now.inner) rs (slice_index_or (S.PageStore.pages store.old) leaf.now.page []) → result ≡ Ok (tally (wanted (K.Kind.meaning kind.now) (lowest_of range.now) (highest_of range.now) (box_of inner.now)) rs) }
-{
-    let mut page = [0; 512];
-    match load_bucket(kind, store, leaf, &mut page) {
-        Ok(()) => Ok(count_records(kind, range, inner, &page)),
-        Err(refusal) => Err(refusal),
+impl<K: Kind> Grid<K> {
+    // The walk over the whole space for a range; refused if the grid is not made, or the two lists are no range.
+    pub(crate) fn walk_over<S: PageStore>(
+        &self,
+        store: &S,
+        lowest: &[u32],
+        highest: &[u32],
+    ) -> Result<Walk<'_, K>, Refusal>
+        ensures begun { IfOk result (λ w. (w.kind.now ≡ self.now.kind) × Begun (K.Kind.meaning self.now.kind) (state (S.PageStore.pages store.now) self.now) lowest.now highest.now w.memory.now w.range w.inner) }
+        ensures refused { IfErr result (λ e. NotBegun (K.Kind.meaning self.now.kind) (state (S.PageStore.pages store.now) self.now) lowest.now highest.now e) }
+    {
+        let memory = self.memory_over(store.count())?;
+        let range = KeyRange::new(&memory.space, lowest, highest).ok_or(Refusal::BadKeys)?;
+        Ok(Walk {
+            kind: &self.kind,
+            memory,
+            range,
+            inner: GridBox::whole(&memory.space),
+        })
     }
-}
-
-// The sum of what both halves gave, or the first refusal.
-fn of_both(lower: Result<usize, Refusal>, upper: Result<usize, Refusal>) -> Result<usize, Refusal>
-    ensures { (a b : ℕ) → lower ≡ Ok (capped a) → upper ≡ Ok (capped b) → result ≡ Ok (capped (a + b)) }
-{
-    match lower {
-        Ok(below) => match upper {
-            Ok(above) => Ok(below.saturating_add(above)),
-            Err(refusal) => Err(refusal),
-        },
-        Err(refusal) => Err(refusal),
-    }
-}
-
-// How many records lie in the box and in the range, by the image of a directory box around the box.
-fn count_leaves<K: Kind, S: PageStore>(
-    kind: &K,
-    store: &mut S,
-    range: &KeyRange,
-    directory: &Opened,
-    inner: &GridBox,
-) -> Result<usize, Refusal>
-    requires range { OfKind (K.Kind.meaning kind.now) range.now.space.now }
-    requires inner { OfKind (K.Kind.meaning kind.now) inner.now.space.now }
-    requires under { Under (length (S.PageStore.pages store.old)) directory.now inner.now }
-    ensures kept { S.PageStore.pages store.new ≡ S.PageStore.pages store.old }
-    ensures counted { CountedUnder (K.Kind.meaning kind.now) (S.PageStore.pages store.old) (lowest_of range.now) (highest_of range.now) (box_of directory.now.inner) (image_of directory.now.image) (box_of inner.now) result }
-{
-    if !range.meets(inner) {
-        return Ok(0);
-    }
-    let low = &inner.low[..inner.space.keys];
-    let leaf = leaf_site(&directory.image, directory.pages, &directory.inner, low);
-    if leaf.inner.level <= inner.level {
-        return count_bucket(kind, store, range, &leaf, inner);
-    }
-    let Some(lower) = inner.half(false) else {
-        unreachable()
-    };
-    let Some(upper) = inner.half(true) else {
-        unreachable()
-    };
-    let below = count_leaves(kind, store, range, directory, &lower);
-    let above = count_leaves(kind, store, range, directory, &upper);
-    of_both(below, above)
-}
-
-// How many records lie in the box and in the range, by the root image in memory.
-pub(crate) fn count_directories<K: Kind, S: PageStore>(
-    kind: &K,
-    store: &mut S,
-    range: &KeyRange,
-    memory: &Memory,
-    inner: &GridBox,
-) -> Result<usize, Refusal>
-    requires range { OfKind (K.Kind.meaning kind.now) range.now.space.now }
-    requires inner { OfKind (K.Kind.meaning kind.now) inner.now.space.now }
-    requires over { Over (length (S.PageStore.pages store.old)) memory.now inner.now }
-    ensures kept { S.PageStore.pages store.new ≡ S.PageStore.pages store.old }
-    ensures counted { Counted (K.Kind.meaning kind.now) (S.PageStore.pages store.old) memory.now (lowest_of range.now) (highest_of range.now) (box_of inner.now) result }
-{
-    let _ = laws_stand();
-    let _ = bucket_laws_stand();
-    if !range.meets(inner) {
-        return Ok(0);
-    }
-    let low = &inner.low[..inner.space.keys];
-    let Some(directory) = directory_site(memory, low) else {
-        unreachable()
-    };
-    if directory.inner.level <= inner.level {
-        return match load_directory(store, memory.pages, &directory) {
-            Ok(image) => count_leaves(
-                kind,
-                store,
-                range,
-                &Opened {
-                    inner: directory.inner,
-                    image,
-                    pages: memory.pages,
-                },
-                inner,
-            ),
-            Err(refusal) => Err(refusal),
-        };
-    }
-    let Some(lower) = inner.half(false) else {
-        unreachable()
-    };
-    let Some(upper) = inner.half(true) else {
-        unreachable()
-    };
-    let below = count_directories(kind, store, range, memory, &lower);
-    let above = count_directories(kind, store, range, memory, &upper);
-    of_both(below, above)
 }

@@ -87,9 +87,7 @@ fn records_are_found_counted_and_listed(rt: HostRuntime) -> Result<(), Fail> {
     with_two_records(&rt, &mut store);
     let mut page = [0; 512];
     assert!(rt; grid.find(&mut store, &[3, 0], &mut page) == Ok(Some(1)));
-    let Ok(record) = hand_out(&TrialT::new(), &page, 1) else {
-        return Err(Fail::new("no record"));
-    };
+    let record = hand_out(&TrialT::new(), &page, 1).map_err(|_| Fail::new("no record"))?;
     assert!(rt; record == [0x54, 0x57, 3, 0].as_slice());
     assert!(rt; grid.count(&mut store, &[0, 0], &[3, 3]) == Ok(2));
     assert!(rt; grid.count(&mut store, &[1, 2], &[2, 2]) == Ok(1));

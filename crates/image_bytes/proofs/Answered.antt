@@ -6,11 +6,10 @@ use Rattle.images.specs.Directory.{Tile, Image, tile_bytes, layout, intervals}
 use Rattle.images.specs.Memory.{tile}
 use Rattle.images.specs.Parts.{parted, total}
 use Rattle.images.specs.Tilings.{listed}
-use Rattle.images.specs.declared.held_image.HeldImage.{HeldImage}
 use Rattle.images.specs.declared.held_image.Named.{Named}
 use Rattle.images.proofs.Scales.{length_listed}
 use Rattle.images.proofs.Turns.{length_parted}
-use Rattle.image_bytes.specs.Counts.{cells_of}
+use Rattle.images.specs.Parts.{product}
 use Rattle.image_bytes.specs.Fields.{Zeros, Stands, Put, count_bytes, named_bytes, heading_bytes}
 use Rattle.image_bytes.specs.Reading.{Heading}
 use Rattle.image_bytes.proofs.Flat.{View, flat, flat_long, from_view, layout_flat, used, counts_long, ends_long, cells_long, gap_long}
@@ -28,14 +27,17 @@ cell_codes : (ns : List Named) → joined (map tile_bytes (map tile ns)) ≡ joi
 cell_codes [] = refl
 cell_codes (n ∷ ns) = ap (λ (us : List ℕ). named_bytes n ++ us) (cell_codes ns)
 
+pub cells_written : (m : ℕ) (ns : List Named) → m ≤ length ns → joined (map named_bytes (take m ns)) ≡ joined (map tile_bytes (listed m (λ k. tile (get_or ns k (record { page = 0; level = 0 })))))
+cells_written m ns l = sym (cell_codes (take m ns)) ∙ ap (λ (us : List Tile). joined (map tile_bytes us)) (sym (listed_cells m ns l))
+
 -- the image with these ends, side by side, and these tiles
 abbrev pub held : List ℕ → List ℕ → (ℕ → Tile) → Image
 held cs xs f = record { ends = parted cs xs; cells = listed (intervals (parted cs xs)) f }
 
 -- n ends and c cells
-module _ (cs xs : List ℕ) (n c : ℕ) (en : total cs ≡ n) (ec : cells_of cs ≡ c) (room : n ≤ length xs) where
+module _ (cs xs : List ℕ) (n c : ℕ) (en : total cs ≡ n) (ec : product cs ≡ c) (room : n ≤ length xs) where
   pub intervals_are : intervals (parted cs xs) ≡ c
-  intervals_are = sym (cells_lengths (parted cs xs)) ∙ ap cells_of (lengths_parted cs xs (omega arith)) ∙ ec
+  intervals_are = sym (cells_lengths (parted cs xs)) ∙ ap product (lengths_parted cs xs (omega arith)) ∙ ec
 
   -- the bytes of it
   pub held_flat : (f : ℕ → Tile) (size m₀ m₁ level : ℕ) → length cs ≤ 4 → layout size m₀ m₁ level (held cs xs f) ≡ flat size m₀ m₁ level cs (take n xs) (listed c f)
@@ -58,9 +60,6 @@ module _ (cs xs : List ℕ) (n c : ℕ) (en : total cs ≡ n) (ec : cells_of cs 
     abbrev tiles : ℕ → Tile
     tiles m = tile (get_or ns m (record { page = 0; level = 0 }))
 
-    cells_same : joined (map named_bytes (take c ns)) ≡ joined (map tile_bytes (listed c tiles))
-    cells_same = sym (cell_codes (take c ns)) ∙ ap (λ (us : List Tile). joined (map tile_bytes us)) (sym (listed_cells c ns small))
-
     pub read_image : Heading m₀ m₁ k level bs → Stands bs 4 (joined (map count_bytes cs)) → Stands bs 16 (joined (map four (take n xs)))
         → Stands bs (16 + 4 * n) (joined (map named_bytes (take c ns))) → Zeros bs (16 + 4 * n + 3 * c) (length bs)
         → bs ≡ layout (length bs) m₀ m₁ level (held cs xs tiles)
@@ -74,7 +73,7 @@ module _ (cs xs : List ℕ) (n c : ℕ) (en : total cs ≡ n) (ec : cells_of cs 
           ends = ends;
           cells =
               subst (λ a. Stands bs (16 + 4 * a) (joined (map tile_bytes (listed c tiles)))) (sym ends_many)
-              (subst (λ (us : List ℕ). Stands bs (16 + 4 * n) us) cells_same cells);
+              (subst (λ (us : List ℕ). Stands bs (16 + 4 * n) us) (cells_written c ns small) cells);
           rest = subst (λ a. Stands bs a (replicate (length bs - a) 0)) (sym (used_is tiles)) (zeros_stand bs (16 + 4 * n + 3 * c) (length bs) fits (omega arith) rest);
         } in
         from_view m₀ m₁ level cs (take n xs) (listed c tiles) (omega arith) bs seen (omega (arith, used_is tiles)) ∙ sym (held_flat tiles (length bs) m₀ m₁ level (omega arith))
@@ -117,9 +116,3 @@ module _ (cs xs : List ℕ) (n c : ℕ) (en : total cs ≡ n) (ec : cells_of cs 
         put_whole b₀ (flat (length b₀) m₀ m₁ level cs (take n xs) (listed c f)) b₄
         (flat_long m₀ m₁ level cs (take n xs) (listed c f) few (length b₀) (omega (arith, used_is f))) (subst (λ (us : List ℕ). Put b₀ 0 us b₄) e p₂)
         ∙ sym (held_flat f (length b₀) m₀ m₁ level few)
-
--- how many cells an image in memory has
-pub held_cells : {most_ends most_cells : ℕ} (d : HeldImage most_ends most_cells) → cells_of (take d.keys d.counts) ≤ most_cells
-held_cells d =
-    let cs = take d.keys d.counts in
-    omega (arith, d.small, intervals_are cs d.ends (total cs) (cells_of cs) refl refl (omega (arith, d.room, d.long)))

@@ -1,5 +1,6 @@
 -- Images that are lawful in a box, and those that were read.
-use Rattle.std.proofs.Common.{◌≡◌, ℕ, ◌≤◌, List, length, sym, ◌∙◌, subst, ap₂, arith}
+use Rattle.std.proofs.Common.{◌≡◌, ℕ, ◌≤◌, Bool, true, false, List, Some, None, Option, length, refl, sym, ◌∙◌, subst, ap₂, arith}
+use Rattle.std.specs.Bool.{then_some}
 use Rattle.boxes.specs.Cuts.{Path}
 use Rattle.images.specs.Directory.{Image, Lawful, layout, intervals}
 use Rattle.images.specs.Memory.{image_of, scales_in, tile_in}
@@ -8,6 +9,11 @@ use Rattle.images.proofs.Layouts.{layout_same}
 use Rattle.images.proofs.Memory.{keys_in}
 use Rattle.images.proofs.Scales.{length_listed}
 use Rattle.image_bytes.specs.Reading.{Sound}
+
+-- an answer that comes where a test says so
+pub answered : {A : Type 0} (P : Option A → Type 0) (test : Bool) (x : A) → (test ≡ true → P (Some x)) → (test ≡ false → P None) → P (then_some test x)
+answered P true x given denied = given refl
+answered P false x given denied = denied refl
 
 module _ (ws ord : List ℕ) (b : Path) (n most_inner most_cells k level size m₀ m₁ : ℕ) (bs : List ℕ)
     (few : k ≤ 4) (many : length ws ≡ k) (deep : length b ≡ level) (long : length bs ≡ size) where

@@ -4,6 +4,5 @@ pub mod Judged
 pub mod Numbers
 pub mod Parsed
 pub mod Refusals
-pub mod Rises
 pub mod Scaled
 pub mod Standing

@@ -1,29 +1,47 @@
--- The turns of the loops that read.
-use Rattle.std.proofs.Common.{◌≡◌, ℕ, suc, ◌+◌, ◌-◌, ◌*◌, ◌<◌, ◌≤◌, List, map, length, get_or, take, set, sym, refl, ap, ◌∙◌, subst, ⊎_elim, arith, length-set}
-use Rattle.std.proofs.lemmas.List.{get_or-set_same, get_or-set_other}
-use Rattle.std.proofs.lemmas.Bool.{cases_eq}
+-- The parts of an image that are read.
+use Rattle.std.proofs.Common.{eqb, [], ap₂, Bool, true, false, ltb, Decides, ◌≡◌, ℕ, zero, suc, ◌+◌, ◌*◌, ◌<◌, ◌≤◌, List, ◌∷◌, map, length, get_or, take, sym, refl, ap, ◌∙◌, subst, arith}
+use Rattle.std.specs.List.{IsAllAdjacentAnswer}
+use Rattle.std.proofs.lemmas.Bool.{ltb-true, lt-ltb, false≢true}
+use Rattle.images.specs.Directory.{Rising}
+use Rattle.images.specs.Parts.{AllRising}
 use Rattle.images.specs.Bytes.{two, joined}
 use Rattle.images.proofs.Bytes.{two_same}
 use Rattle.image_bytes.specs.Fields.{Stands, count_bytes}
-use Rattle.image_bytes.proofs.Standing.{read_more, code_at}
+use Rattle.image_bytes.proofs.Standing.{code_at}
 
--- one more count is read
-pub counts_more : (bs cs : List ℕ) (i n : ℕ) → i < 4 → length cs ≡ 4 → (n ≡ 0 → ⊥) → n < 65536 → Stands bs (4 + 2 * i) (two n)
-    → Stands bs 4 (joined (map count_bytes (take i cs))) → ((k : ℕ) → get_or cs k 0 ≤ 65535)
-    → (length (set cs i (n - 1)) ≡ 4) × Stands bs 4 (joined (map count_bytes (take (i + 1) (set cs i (n - 1)))))
-    × ((k : ℕ) → get_or (set cs i (n - 1)) k 0 ≤ 65535)
-counts_more bs cs i n small long some fits here done most =
-    let e : n ≡ suc (n - 1) = omega arith in (
-      length-set cs i (n - 1) ∙ long,
-      read_more count_bytes 2 (λ _. refl) bs 4 i cs (n - 1) (omega arith) done (subst (λ m. Stands bs (4 + 2 * i) (two m)) e here),
-      λ k. ⊎_elim
-          (λ q. subst (λ m. m ≤ 65535) (sym (get_or-set_same cs i (n - 1) 0 (omega arith)) ∙ ap (λ m. get_or (set cs i (n - 1)) m 0) (sym q)) (omega arith))
-          (λ ne. subst (λ m. m ≤ 65535) (sym (get_or-set_other cs i k (n - 1) 0 ne)) (most k))
-          (cases_eq k i),
-    )
+-- a number that is no 0
+pub some_number : (n : ℕ) → eqb n 0 ≡ false → 0 < n
+some_number zero e = absurd (false≢true (sym e))
+some_number (suc n) e = omega arith
+
+-- counts in the bytes of the numbers of intervals
+pub counts_bytes : (k : ℕ) (ns cs : List ℕ) → k ≤ length ns → k ≤ length cs → ((i : ℕ) → i < k → suc (get_or cs i 0) ≡ get_or ns i 0) → map count_bytes (take k cs) ≡ map two (take k ns)
+counts_bytes zero ns cs l m e = refl
+counts_bytes (suc k) [] cs l m e = absurd (omega arith)
+counts_bytes (suc k) (n ∷ ns) [] l m e = absurd (omega arith)
+counts_bytes (suc k) (n ∷ ns) (c ∷ cs) l m e = ap₂ (λ (u : List ℕ) (us : List (List ℕ)). u ∷ us) (ap two (e 0 (omega arith))) (counts_bytes k ns cs (omega arith) (omega arith) (λ i h. e (suc i) (omega arith)))
 
 -- a key without an interval
 pub no_count : (bs cs : List ℕ) (k i n : ℕ) → i < k → n ≡ 0 → Stands bs (4 + 2 * i) (two n) → length cs ≡ k → Stands bs 4 (joined (map count_bytes cs)) → ⊥
 no_count bs cs k i n l none here long all =
     let there = code_at count_bytes 2 (λ _. refl) bs 4 cs i 0 (omega arith) all in
     omega (arith, two_same n (suc (get_or cs i 0)) (sym here ∙ there))
+
+-- what comparing each end with the next says
+pub rises_of : (r : Bool) (xs : List ℕ) → IsAllAdjacentAnswer (λ x y b. b ≡ ltb x y) xs r → Decides r (Rising xs)
+rises_of true xs m = ((λ _ j h. let more : j + 1 ≡ suc j = omega arith in subst (λ n. get_or xs j 0 < get_or xs n 0) more (ltb-true (get_or xs j 0) (get_or xs (j + 1) 0) (sym (m j 0 (omega arith))))), (λ _. refl))
+rises_of false xs m =
+    let k = m.0 in
+    let more : suc k ≡ k + 1 = omega arith in
+    ((λ e. absurd (false≢true e)), (λ up. absurd (false≢true (m.2 0 ∙ lt-ltb (get_or xs k 0) (get_or xs (k + 1) 0) (subst (λ n. get_or xs k 0 < get_or xs n 0) more (up k (omega (arith, m.1))))))))
+
+-- the first key's ends and the others
+pub all_rising : (es : List (List ℕ)) (us : List ℕ) (more : List (List ℕ)) → es ≡ us ∷ more → Rising us → AllRising more → AllRising es
+all_rising es us more e here rest = subst AllRising (sym e) go
+  where
+    go : AllRising (us ∷ more)
+    go zero l = here
+    go (suc i) l = rest i (omega arith)
+
+pub others_rising : (es : List (List ℕ)) (us : List ℕ) (more : List (List ℕ)) → es ≡ us ∷ more → AllRising es → AllRising more
+others_rising es us more e all = let all' = subst AllRising e all in λ i l. all' (suc i) (omega arith)

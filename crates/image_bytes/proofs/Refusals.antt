@@ -5,7 +5,7 @@ use Rattle.images.specs.Bytes.{four, joined}
 use Rattle.images.specs.Directory.{Image, layout, inner, intervals}
 use Rattle.images.specs.Parts.{parted, total, AllRising}
 use Rattle.images.proofs.Bytes.{two_same, four_same, coded_same, each_long, length_coded}
-use Rattle.image_bytes.specs.Counts.{cells_of}
+use Rattle.images.specs.Parts.{product}
 use Rattle.image_bytes.specs.Fields.{Zeros, Stands, count_bytes}
 use Rattle.image_bytes.specs.Reading.{Sound, Heading, Counted}
 use Rattle.image_bytes.proofs.Flat.{View, view, layout_flat, used}
@@ -63,14 +63,14 @@ module _ (m₀ m₁ k level most_inner most_cells : ℕ) (bs : List ℕ) (few : 
     pub total_few : total (take k cs) ≤ most_inner
     total_few = omega (arith, total_is, sound.few_inner)
 
-    cells_are : cells_of (take k cs) ≡ intervals img.ends
-    cells_are = ap cells_of counts_same ∙ cells_lengths img.ends
+    cells_are : product (take k cs) ≡ intervals img.ends
+    cells_are = ap product counts_same ∙ cells_lengths img.ends
 
-    pub cells_few : cells_of (take k cs) ≤ most_cells
+    pub cells_few : product (take k cs) ≤ most_cells
     cells_few = omega (arith, cells_are, sound.few_cells)
 
     -- the rest is zero
-    pub rest_stands : (n m : ℕ) → n ≡ total (take k cs) → m ≡ cells_of (take k cs) → Zeros bs (16 + 4 * n + 3 * m) (length bs)
+    pub rest_stands : (n m : ℕ) → n ≡ total (take k cs) → m ≡ product (take k cs) → Zeros bs (16 + 4 * n + 3 * m) (length bs)
     rest_stands n m en em i ge lt =
         let a : length (joined img.ends) ≡ n = length_joined img.ends ∙ sym total_is ∙ sym en in
         let b : length img.cells ≡ m = sound.all_cells ∙ sym cells_are ∙ sym em in

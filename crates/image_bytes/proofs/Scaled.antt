@@ -7,7 +7,7 @@ use Rattle.images.specs.Memory.{tile}
 use Rattle.images.specs.Parts.{parted, total}
 use Rattle.images.specs.Tilings.{listed}
 use Rattle.images.specs.declared.held_image.Named.{Named}
-use Rattle.image_bytes.specs.Counts.{cells_of}
+use Rattle.images.specs.Parts.{product}
 use Rattle.image_bytes.proofs.Standing.{take_two, joined_append}
 
 pub lengths_parted : (cs xs : List ℕ) → total cs ≤ length xs → map length (parted cs xs) ≡ cs
@@ -35,7 +35,7 @@ pub total_lengths : (es : List (List ℕ)) → total (map length es) ≡ inner e
 total_lengths [] = refl
 total_lengths (e ∷ es) = ap (λ n. length e + n) (total_lengths es)
 
-pub cells_lengths : (es : List (List ℕ)) → cells_of (map length es) ≡ intervals es
+pub cells_lengths : (es : List (List ℕ)) → product (map length es) ≡ intervals es
 cells_lengths [] = refl
 cells_lengths (e ∷ es) = ap (λ n. suc (length e) * n) (cells_lengths es)
 

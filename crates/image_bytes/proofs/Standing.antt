@@ -1,15 +1,11 @@
 -- Fields that stand among bytes, and fields put there.
-use Rattle.std.proofs.Common.{◌≡◌, ℕ, zero, suc, ◌+◌, ◌-◌, ◌*◌, ◌<◌, ◌≤◌, List, [], ◌∷◌, ◌++◌, map, length, get_or, take, drop, set, replicate, sym, refl, ap, ◌∙◌, subst, ap₂, append_assoc, append-nil, arith, length-append, length-drop, length-set}
+use Rattle.std.proofs.Common.{Bool, Decides, ◌≡◌, ℕ, zero, suc, ◌+◌, ◌-◌, ◌*◌, ◌<◌, ◌≤◌, List, [], ◌∷◌, ◌++◌, map, length, get_or, take, drop, set, replicate, sym, refl, ap, ◌∙◌, subst, ap₂, append_assoc, append-nil, arith, length-append, length-drop}
 use borrow.Rule.Slice.PartMut.{put_mid}
 use Rattle.std.proofs.lemmas.List.{take-append-drop, take-take, take_all, take_at, drop_at, drop-take, drop-drop, drop_more, get_or-drop, get_or-take, get_or-replicate, length-replicate, length-take-le, replicate_more, map_more, map_push, take_more_set, length-take}
 use Rattle.std.proofs.lemmas.Slice.{take-put_mid}
-use Rattle.images.specs.Bytes.{two, four, joined}
-use Rattle.images.specs.Tilings.{listed}
-use Rattle.images.specs.declared.held_image.Named.{Named}
+use Rattle.images.specs.Bytes.{joined}
 use Rattle.images.proofs.Bytes.{length_coded}
-use Rattle.images.proofs.Scales.{length_listed}
-use Rattle.image_bytes.specs.Fields.{two_at, four_at, named_at, named_bytes, Zeros, Stands, Put}
-use Rattle.image_bytes.proofs.Numbers.{two_of, four_of}
+use Rattle.image_bytes.specs.Fields.{Zeros, Stands, Put}
 
 -- fields side by side
 pub take_two : {X : Type 0} (a b : ℕ) (xs : List X) → take (a + b) xs ≡ take a xs ++ take b (drop a xs)
@@ -45,32 +41,6 @@ byte_stands bs at l = ap (take 1) (drop_more bs at 0 l)
 pub bytes_stand : (n : ℕ) (bs : List ℕ) (at : ℕ) → at < length bs → take (suc n) (drop at bs) ≡ get_or bs at 0 ∷ take n (drop (at + 1) bs)
 bytes_stand n bs at l = ap (take (suc n)) (drop_more bs at 0 l)
 
--- numbers
-pub two_stands : (bs : List ℕ) (at r : ℕ) → at + 2 ≤ length bs → get_or bs at 0 < 256 → get_or bs (at + 1) 0 < 256 → r ≡ two_at bs at → Stands bs at (two r)
-two_stands bs at r l ha hb e =
-    bytes_stand 1 bs at (omega arith) ∙ ap (λ (us : List ℕ). get_or bs at 0 ∷ us) (byte_stands bs (at + 1) (omega arith))
-    ∙ two_of (get_or bs at 0) (get_or bs (at + 1) 0) r ha hb e
-
-pub four_stands : (bs : List ℕ) (at r : ℕ) → at + 4 ≤ length bs → get_or bs at 0 < 256 → get_or bs (at + 1) 0 < 256 → get_or bs (at + 2) 0 < 256 → get_or bs (at + 3) 0 < 256
-    → r ≡ four_at bs at → Stands bs at (four r)
-four_stands bs at r l ha hb hc hd e =
-    let n₂ : at + 1 + 1 ≡ at + 2 = omega arith in
-    let n₃ : at + 2 + 1 ≡ at + 3 = omega arith in
-    let a = get_or bs at 0 in
-    let b = get_or bs (at + 1) 0 in
-    let c = get_or bs (at + 2) 0 in
-    bytes_stand 3 bs at (omega arith)
-    ∙ ap (λ (us : List ℕ). a ∷ us) (bytes_stand 2 bs (at + 1) (omega arith) ∙ ap (λ n. b ∷ take 2 (drop n bs)) n₂)
-    ∙ ap (λ (us : List ℕ). a ∷ b ∷ us) (bytes_stand 1 bs (at + 2) (omega arith) ∙ ap (λ n. c ∷ take 1 (drop n bs)) n₃)
-    ∙ ap (λ (us : List ℕ). a ∷ b ∷ c ∷ us) (byte_stands bs (at + 3) (omega arith))
-    ∙ four_of a b c (get_or bs (at + 3) 0) r ha hb hc hd e
-
-pub named_stands : (bs : List ℕ) (at : ℕ) (r : Named) → at + 3 ≤ length bs → get_or bs at 0 < 256 → get_or bs (at + 1) 0 < 256 → r ≡ named_at bs at → Stands bs at (named_bytes r)
-named_stands bs at r l ha hb e =
-    let page = two_stands bs at (two_at bs at) (omega arith) ha hb refl in
-    subst (λ (u : Named). Stands bs at (named_bytes u)) (sym e)
-    (stands_more bs at (two (two_at bs at)) (get_or bs (at + 2) 0 ∷ []) page (byte_stands bs (at + 2) (omega arith)))
-
 -- zeros
 zero_step : (bs : List ℕ) (from n i m : ℕ) → i ≡ from + n → m ≡ n + 1 → i < length bs → get_or bs i 0 ≡ 0 → Stands bs from (replicate n 0) → Stands bs from (replicate m 0)
 zero_step bs from n i m ei em l z h =
@@ -86,6 +56,19 @@ zeros_below (suc n) bs from l z =
 
 pub zeros_stand : (bs : List ℕ) (from to : ℕ) → from ≤ to → to ≤ length bs → Zeros bs from to → Stands bs from (replicate (to - from) 0)
 zeros_stand bs from to le l z = zeros_below (to - from) bs from (omega arith) (λ i ge lt. z i ge (omega arith))
+
+pub zeros_of : (r : Bool) (bs : List ℕ) (from to : ℕ) → from ≤ to → to ≤ length bs
+    → Decides r ((k : ℕ) → k < length (take (to - from) (drop from bs)) → get_or (take (to - from) (drop from bs)) k 0 ≡ 0) → Decides r (Zeros bs from to)
+zeros_of r bs from to le l h =
+    let part = take (to - from) (drop from bs) in
+    let long : length part ≡ to - from = length-take-le (to - from) (drop from bs) (omega (arith, length-drop from bs)) in
+    let at : (k : ℕ) → k < to - from → get_or part k 0 ≡ get_or bs (from + k) 0 = λ k m. get_or-take (to - from) (drop from bs) k 0 m ∙ get_or-drop from bs k 0 in (
+      (λ e i ge lt.
+          let k : i - from < to - from = omega arith in
+          let place : from + (i - from) ≡ i = omega arith in
+          ap (λ n. get_or bs n 0) (sym place) ∙ sym (at (i - from) k) ∙ h.0 e (i - from) (omega (arith, long))),
+      (λ z. h.1 (λ k m. let w : k < to - from = omega (arith, long) in at k w ∙ z (from + k) (omega arith) (omega arith))),
+    )
 
 pub zero_byte : (bs : List ℕ) (from to i : ℕ) → from ≤ i → i < to → Stands bs from (replicate (to - from) 0) → get_or bs i 0 ≡ 0
 zero_byte bs from to i le l h =
@@ -152,21 +135,6 @@ module _ {A : Type 0} (g : A → List ℕ) (z : ℕ) (wide : (a : A) → length 
   pub written_all : (before after : List ℕ) (at i : ℕ) (xs : List A) → length xs ≤ i → Put before at (joined (map g (take i xs))) after → Put before at (joined (map g xs)) after
   written_all before after at i xs l p = subst (λ (us : List A). Put before at (joined (map g us)) after) (take_all i xs l) p
 
--- the same of a function's values
-listed_push : {A : Type 0} (n : ℕ) (f : ℕ → A) → listed (n + 1) f ≡ listed n f ++ f n ∷ []
-listed_push zero f = refl
-listed_push {A} (suc n) f =
-    let e : suc n + 1 ≡ suc (n + 1) = omega arith in
-    ap (λ m. listed m f) e ∙ ap (λ (us : List A). f 0 ∷ us) (listed_push n (λ i. f (suc i)))
-
-module _ {A : Type 0} (g : A → List ℕ) (z : ℕ) (wide : (a : A) → length (g a) ≡ z) where
-  pub listed_more : (before middle after : List ℕ) (at next i : ℕ) (f : ℕ → A) → next ≡ at + z * i
-      → Put before at (joined (map g (listed i f))) middle → Put middle next (g (f i)) after → Put before at (joined (map g (listed (i + 1) f))) after
-  listed_more before middle after at next i f e p q =
-      let w : next ≡ at + length (joined (map g (listed i f))) = e ∙ ap (λ n. at + n) (sym (length_coded g z wide (listed i f) ∙ ap (λ n. z * n) (length_listed i f))) in
-      let m = put_more before middle after at next (joined (map g (listed i f))) (g (f i)) w p q in
-      subst (λ (us : List ℕ). Put before at us after) (sym (coded_push g z wide (listed i f) (f i)) ∙ ap (λ (us : List A). joined (map g us)) (sym (listed_push i f))) m
-
 -- a field was copied to its place
 pub put_part : (bs : List ℕ) (at : ℕ) (field : List ℕ) (k : ℕ) (ys : List ℕ) → k ≡ length field → ys ≡ field → at + length field ≤ length bs → Put bs at field (put_mid at k bs ys)
 put_part bs at field k ys ek ey l =
@@ -176,23 +144,6 @@ put_part bs at field k ys ek ey l =
       long = simp (length-append, length-take, length-drop) (omega arith);
       front = take-put_mid at k bs ys (at + length field) (omega arith) room ∙ ap (λ (us : List ℕ). take at bs ++ us) ey;
     }
-
-pub put_byte : (bs : List ℕ) (at v : ℕ) → at < length bs → Put bs at (v ∷ []) (set bs at v)
-put_byte bs at v l = record { long = length-set bs at v; front = take_more_set bs at v l }
-
-pub clear_none : (bs : List ℕ) (from : ℕ) → Put bs from (replicate (from - from) 0) bs
-clear_none bs from =
-    let e : from - from ≡ 0 = omega arith in
-    subst (λ n. Put bs from (replicate n 0) bs) (sym e) (put_none bs from)
-
-clear_step : (before middle : List ℕ) (from n i m : ℕ) → i ≡ from + n → m ≡ n + 1 → i < length middle → Put before from (replicate n 0) middle → Put before from (replicate m 0) (set middle i 0)
-clear_step before middle from n i m ei em l p =
-    let place : from + n ≡ from + length (replicate {A = ℕ} n 0) = ap (λ a. from + a) (sym (length-replicate {A = ℕ} n 0)) in
-    let both = put_more before middle (set middle i 0) from i (replicate n 0) (0 ∷ []) (ei ∙ place) p (put_byte middle i 0 l) in
-    subst (λ (us : List ℕ). Put before from us (set middle i 0)) (replicate_more n 0 ∙ ap (λ a. replicate a 0) (sym em)) both
-
-pub clear_more : (before middle : List ℕ) (from i : ℕ) → from ≤ i → i < length middle → Put before from (replicate (i - from) 0) middle → Put before from (replicate (i + 1 - from) 0) (set middle i 0)
-clear_more before middle from i le l p = clear_step before middle from (i - from) i (i + 1 - from) (omega arith) (omega arith) l p
 
 -- all of it was put
 pub put_whole : (before u after : List ℕ) → length u ≡ length before → Put before 0 u after → after ≡ u

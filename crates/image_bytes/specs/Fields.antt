@@ -5,17 +5,6 @@ use Rattle.images.specs.Directory.{tile_bytes}
 use Rattle.images.specs.Memory.{tile}
 use Rattle.images.specs.declared.held_image.Named.{Named}
 
--- the number in two bytes at a place, and in four
-abbrev pub two_at : List ℕ → ℕ → ℕ
-two_at bytes at = slice_index bytes at * 256 + slice_index bytes (at + 1)
-
-abbrev pub four_at : List ℕ → ℕ → ℕ
-four_at bytes at = slice_index bytes at * 16777216 + slice_index bytes (at + 1) * 65536 + slice_index bytes (at + 2) * 256 + slice_index bytes (at + 3)
-
--- what the cell at a place names: a page in two bytes, and a level in one
-abbrev pub named_at : List ℕ → ℕ → Named
-named_at bytes at = record { page = two_at bytes at; level = slice_index bytes (at + 2) }
-
 -- all bytes of a stretch are zero
 abbrev pub Zeros : List ℕ → ℕ → ℕ → Type 0
 Zeros bytes from to = (i : ℕ) → from ≤ i → i < to → slice_index bytes i ≡ 0

@@ -51,7 +51,6 @@ pub record Heading (m₀ m₁ k level : ℕ) (bytes : List ℕ) : Type 0 where
 pub record Counted (k : ℕ) (bytes cs : List ℕ) : Type 0 where
   pub four_keys : length cs ≡ 4
   pub stand : Stands bytes 4 (joined (map count_bytes (take k cs)))
-  pub small : (i : ℕ) → slice_index cs i ≤ 65535
 
 -- the bytes say so; or some key has no interval
 abbrev pub CountsRead : ℕ → List ℕ → Option (List ℕ) → Type 0

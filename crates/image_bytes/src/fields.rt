@@ -1,52 +1,51 @@
-// Fields of the bytes of an image, the highest byte first.
-ghost use Rattle.std.specs.Prelude.{◌≡◌, ◌+◌, ◌-◌, ◌≤◌, length, replicate, Decides};
-ghost use Rattle.image_bytes.specs.Fields.{two_at, four_at, named_at, Zeros, Put};
+// Fields of the bytes of an image.
+ghost use Rattle.std.specs.Prelude.{◌≡◌, ◌+◌, ◌-◌, ◌*◌, ◌≤◌, ◌↔◌, map, length, take, replicate, IsTrue};
+ghost use Rattle.images.specs.Bytes.{joined};
+ghost use Rattle.image_bytes.specs.Fields.{Stands, Zeros, Put};
 
-use images::Named;
+use crate::coded::Coded;
 
 // What the bytes of a directory image begin with, and those of the root.
 pub(crate) const DIRECTORY_MARK: [u8; 2] = [0x44, 0x49];
 
 pub(crate) const ROOT_MARK: [u8; 2] = [0x52, 0x54];
 
-// The number of two bytes at a place.
-pub(crate) fn be16(bytes: &[u8], at: usize) -> u16
-    requires { at + 2 ≤ length bytes.now }
-    ensures { result ≡ two_at bytes.now at }
+// The item whose bytes begin at a place.
+fn field<T: Coded<N>, const N: usize>(bytes: &[u8], at: usize) -> T
+    requires { at + N ≤ length bytes.now }
+    ensures { Stands bytes.now at (T.code result) }
 {
-    u16::from_be_bytes([bytes[at], bytes[at + 1]])
+    let mut field = [0; N];
+    field.copy_from_slice(&bytes[at..at + N]);
+    T::from_bytes(&field)
 }
 
-// The number of four bytes at a place.
-pub(crate) fn be32(bytes: &[u8], at: usize) -> u32
-    requires { at + 4 ≤ length bytes.now }
-    ensures { result ≡ four_at bytes.now at }
+// The items whose bytes stand in turn from a place on, `count` of them, at the front of an array that holds `fill` behind them.
+pub(crate) fn fields<T: Coded<N>, const N: usize, const LENGTH: usize>(
+    bytes: &[u8],
+    at: usize,
+    count: usize,
+    fill: T,
+) -> [T; LENGTH]
+    requires count_bound { count ≤ LENGTH }
+    requires in_bounds { at + N * count ≤ length bytes.now }
+    ensures long { length result ≡ LENGTH }
+    ensures read { Stands bytes.now at (joined (map T.code (take count result))) }
 {
-    u32::from_be_bytes([bytes[at], bytes[at + 1], bytes[at + 2], bytes[at + 3]])
-}
-
-// What the cell at a place names: a page in two bytes, and a level in one.
-pub(crate) fn named(bytes: &[u8], at: usize) -> Named
-    requires { at + 3 ≤ length bytes.now }
-    ensures { result ≡ named_at bytes.now at }
-{
-    Named {
-        page: be16(bytes, at),
-        level: bytes[at + 2],
+    let mut items = [fill; LENGTH];
+    for (i, item) in items[..count].iter_mut().enumerate() {
+        *item = field(bytes, at + N * i);
     }
+    items
 }
 
 // Are the bytes of a stretch all zero?
 pub(crate) fn is_zero(bytes: &[u8], from: usize, to: usize) -> bool
-    requires { to ≤ length bytes.now }
-    ensures { Decides result (Zeros bytes.now from to) }
+    requires from_le_to { from ≤ to }
+    requires to_in_bounds { to ≤ length bytes.now }
+    ensures { IsTrue result ↔ Zeros bytes.now from to }
 {
-    for i in from..to {
-        if bytes[i] != 0 {
-            return false;
-        }
-    }
-    true
+    bytes[from..to].iter().all(|byte| *byte == 0)
 }
 
 // Puts a field at a place.
@@ -57,13 +56,21 @@ pub(crate) fn put(bytes: &mut [u8], at: usize, field: &[u8])
     bytes[at..at + field.len()].copy_from_slice(field);
 }
 
+// Puts all of these in turn, from a place on.
+pub(crate) fn put_all<T: Coded<N>, const N: usize>(bytes: &mut [u8], at: usize, items: &[T])
+    requires { at + N * length items.now ≤ length bytes.old }
+    ensures { Put bytes.old at (joined (map T.code items.now)) bytes.new }
+{
+    for (i, item) in items.iter().enumerate() {
+        put(bytes, at + N * i, &item.to_bytes());
+    }
+}
+
 // Puts zeros over a stretch.
 pub(crate) fn clear(bytes: &mut [u8], from: usize, to: usize)
     requires from_le_to { from ≤ to }
     requires to_in_bounds { to ≤ length bytes.old }
     ensures { Put bytes.old from (replicate (to - from) 0) bytes.new }
 {
-    for i in from..to {
-        bytes[i] = 0;
-    }
+    bytes[from..to].fill(0);
 }

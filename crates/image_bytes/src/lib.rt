@@ -1,7 +1,7 @@
 // Images read from bytes and written to bytes.
 #![tactic(auto)]
 
-mod counting;
+mod coded;
 mod fields;
 mod parsing;
 mod reading;

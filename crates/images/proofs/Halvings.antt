@@ -1,7 +1,9 @@
 -- The span of a level by counting the halvings of its key.
-use Rattle.std.proofs.Common.{◌≡◌, ℕ, zero, suc, ◌+◌, ◌-◌, ◌*◌, ◌%◌, ◌^◌, ◌<◌, ◌≤◌, min, List, [], ◌∷◌, length, get_or, take, sym, ap, ◌∙◌, inl, inr, arith, pow_pos, pow_mono}
-use Rattle.std.proofs.lemmas.Bool.{eq-eqb, ne_eqb, cases_lt}
-use Rattle.std.proofs.lemmas.List.{get_or-take, take_all}
+use Rattle.std.proofs.Common.{cond, eqb, refl, ◌≡◌, ℕ, zero, suc, ◌+◌, ◌-◌, ◌*◌, ◌%◌, ◌^◌, ◌<◌, ◌≤◌, min, List, [], ◌∷◌, length, get_or, take, sym, ap, ◌∙◌, inl, inr, arith, pow_pos, pow_mono}
+use Rattle.std.proofs.lemmas.Bool.{cases_lt}
+use Rattle.std.specs.List.{count_by}
+use Rattle.std.proofs.lemmas.List.{get_or-take, take_all, take-take}
+use Rattle.std.proofs.lemmas.List.Recursion.{is_count_by}
 use Rattle.boxes.specs.declared.space.Space.{Space}
 use Rattle.boxes.specs.Order.{named}
 use Rattle.boxes.specs.Space.{span}
@@ -9,41 +11,10 @@ use Rattle.boxes.specs.Spaces.{widths_of, order_of}
 use Rattle.std.proofs.lemmas.Nat.{one_shl}
 use Rattle.boxes.proofs.OfBoxes.{names, width_le}
 
-named_hit : (k : ℕ) (ord : List ℕ) (l : ℕ) → l < length ord → get_or ord l 0 ≡ k → named k (take (suc l) ord) ≡ suc (named k (take l ord))
-named_hit k [] l h e = absurd (omega arith)
-named_hit k (o ∷ ord) zero h e = rw (eq-eqb k o (sym e))
-named_hit k (o ∷ ord) (suc l) h e = let ih = named_hit k ord l (omega arith) e in grind arith
-
-named_miss : (k : ℕ) (ord : List ℕ) (l : ℕ) → l < length ord → (get_or ord l 0 ≡ k → ⊥) → named k (take (suc l) ord) ≡ named k (take l ord)
-named_miss k [] l h e = absurd (omega arith)
-named_miss k (o ∷ ord) zero h e = rw (ne_eqb k o (λ q. e (sym q)))
-named_miss k (o ∷ ord) (suc l) h e = let ih = named_miss k ord l (omega arith) e in grind arith
-
 named_front : (k : ℕ) (ord : List ℕ) (l : ℕ) → named k (take l ord) ≤ named k ord
 named_front k ord zero = omega arith
 named_front k [] (suc l) = omega arith
 named_front k (o ∷ ord) (suc l) = let ih = named_front k ord l in grind arith
-
-module _ (s : Space) (key l bits : ℕ) (h : l < s.depth) (inv : bits + named key (take l (order_of s)) ≡ get_or (widths_of s) key 0) where
-  inside : l < length (order_of s)
-  inside = omega (arith, s.long)
-
-  halved : get_or (order_of s) l 0 ≡ get_or s.halvings l 0
-  halved = get_or-take s.depth s.halvings l 0 h
-
-  more : take (l + 1) (order_of s) ≡ take (suc l) (order_of s)
-  more = let e : l + 1 ≡ suc l = omega arith in ap (λ n. take n (order_of s)) e
-
-  pub hit : get_or s.halvings l 0 ≡ key → (1 ≤ bits) × ((bits - 1) + named key (take (l + 1) (order_of s)) ≡ get_or (widths_of s) key 0)
-  hit e =
-      let k = ap (named key) more ∙ named_hit key (order_of s) l inside (halved ∙ e) in
-      let w = names s key in
-      let f = named_front key (order_of s) (l + 1) in
-      let p : 1 ≤ bits = omega (arith, k, w, f, inv) in
-      (p, omega (arith, k, inv, p))
-
-  pub miss : (get_or s.halvings l 0 ≡ key → ⊥) → bits + named key (take (l + 1) (order_of s)) ≡ get_or (widths_of s) key 0
-  miss ne = let k = ap (named key) more ∙ named_miss key (order_of s) l inside (λ q. ne (sym halved ∙ q)) in omega (arith, k, inv)
 
 take_min : (a n : ℕ) (xs : List ℕ) → n ≡ min a (length xs) → take n xs ≡ take a xs
 take_min a n xs e = elim (cases_lt a (length xs)) [
@@ -70,3 +41,17 @@ module _ (s : Space) (key level last bits : ℕ) (h : key < s.keys) (e : last �
 
   pub most_span : 2 ^ bits ≤ 4294967296
   most_span = pow_mono {i = bits} {j = 32} narrow
+
+-- so many halvings of the key among the first ones are those that the order names
+module _ (s : Space) (key level last count : ℕ) (h : key < s.keys) (e : last ≡ min level s.depth) (k : count ≡ count_by (λ o. eqb key o) (take last s.halvings)) where
+  counted : count ≡ named key (take last (order_of s))
+  counted = k ∙ sym (is_count_by (named key) (λ o. eqb key o) refl (λ o os. let one : suc (named key os) ≡ 1 + named key os = omega arith in ap (λ n. cond (eqb key o) n (named key os)) one) (take last s.halvings)) ∙ ap (named key) (sym (take-take last s.depth s.halvings (omega arith)))
+
+  width : get_or (widths_of s) key 0 ≡ get_or s.widths key 0
+  width = get_or-take s.keys s.widths key 0 h
+
+  pub room : count ≤ get_or s.widths key 0
+  room = omega (arith, counted, width, names s key, named_front key (order_of s) last)
+
+  pub left_bits : (get_or s.widths key 0 - count) + named key (take last (order_of s)) ≡ get_or (widths_of s) key 0
+  left_bits = omega (arith, counted, width, room)

@@ -3,14 +3,14 @@ pub mod Boxing
 pub mod Built
 pub mod Bytes
 pub mod Checks
-pub mod Collecting
+pub mod Counts
 pub mod Depicts
 pub mod Digits
+pub mod Every
 pub mod Exact
 pub mod Finds
 pub mod Fitting
 pub mod Halvings
-pub mod Insertions
 pub mod Laws
 pub mod Layouts
 pub mod Limits

@@ -8,16 +8,20 @@ use Rattle.boxes.specs.Spaces.{widths_of, order_of}
 use Rattle.images.specs.declared.held_image.HeldImage.{HeldImage}
 use Rattle.images.specs.Cells.{digit, stride}
 use Rattle.images.specs.Checks.{block, cell_low, cell_high, cell_span}
-use Rattle.images.specs.Directory.{Lawful, intervals, named_in}
+use Rattle.images.specs.Directory.{Tile, Lawful, intervals, named_in}
 use Rattle.images.specs.Memory.{scales_in, tile_in, image_of}
 
 -- it is a lawful image of the box, in a store of n pages
 abbrev pub LawfulIn : {E C : ℕ} → GridBox → ℕ → HeldImage E C → Type 0
 LawfulIn {E} {C} g n d = Lawful (widths_of g.space.now) (order_of g.space.now) (box_of g) n E C (image_of d)
 
--- cell m names a page and a level that it may name
+-- a cell of the box may name this: a page behind the root image and in a store of n pages, and a level from that of the box on
+abbrev pub MayName : GridBox → ℕ → Tile → Type 0
+MayName g n t = (8 ≤ t.page) × (t.page < n) × (g.level ≤ t.level) × (t.level ≤ g.space.now.depth)
+
+-- cell m does
 abbrev pub Allowed : {E C : ℕ} → GridBox → ℕ → HeldImage E C → ℕ → Type 0
-Allowed g n d m = (8 ≤ (tile_in d m).page) × ((tile_in d m).page < n) × (g.level ≤ (tile_in d m).level) × ((tile_in d m).level ≤ g.space.now.depth)
+Allowed g n d m = MayName g n (tile_in d m)
 
 -- the ends of key i lie inside the box, above its own
 abbrev pub Inside : {E C : ℕ} → GridBox → HeldImage E C → ℕ → Type 0
@@ -51,8 +55,17 @@ pub record Fits (g : GridBox) {E C : ℕ} (d : HeldImage E C) (i m : ℕ) : Type
       % cell_span (widths_of g.space.now) (order_of g.space.now) (image_of d) (m + stride (scales_in d) i) i
       → named_in (image_of d) (m + stride (scales_in d) i) ≡ named_in (image_of d) m
 
+-- the image and the box have the same keys, and i is one
+abbrev pub HasKey : {E C : ℕ} → GridBox → HeldImage E C → ℕ → Type 0
+HasKey g d i = (d.keys ≡ g.space.now.keys) × (i < d.keys)
+
 -- the rules in key i
 pub record KeyLawful (g : GridBox) {E C : ℕ} (d : HeldImage E C) (i : ℕ) : Type 0 where
   pub inside : Inside g d i
   pub used : (j : ℕ) → j < length (slice_index_or (scales_in d) i []) → Used g d i j
   pub fits : (m : ℕ) → m < intervals (scales_in d) → Fits g d i m
+
+-- the image and the box have the same keys, i is one, and it keeps the rules
+pub record HasLawful (g : GridBox) {E C : ℕ} (d : HeldImage E C) (i : ℕ) : Type 0 where
+  pub has : HasKey g d i
+  pub lawful : KeyLawful g d i

@@ -1,8 +1,9 @@
 -- The directory image and the root image: what they say, their bytes, and the rules that they keep.
 -- In all of it ws are the widths of the keys, ord is the halving order, b the box that an image is of, and n the number of pages of the store.
-use Rattle.std.specs.Prelude.{◌≡◌, ℕ, zero, suc, ◌+◌, ◌*◌, ◌<◌, ◌≤◌, cond, List, [], ◌∷◌, ◌++◌, map, length, replicate, nat_le, slice_index, slice_index_or}
+use Rattle.std.specs.Prelude.{◌≡◌, ℕ, zero, suc, ◌+◌, ◌*◌, ◌<◌, ◌≤◌, if◌then◌else◌, List, [], ◌∷◌, ◌++◌, map, length, replicate, nat_le, slice_index, slice_index_or}
 use Rattle.boxes.specs.Cuts.{Path}
 use Rattle.boxes.specs.Points.{Point, lows}
+pub use Rattle.boxes.specs.Rising.{Rising}
 use Rattle.boxes.specs.Space.{span, Lies, box_at}
 use Rattle.images.specs.Bytes.{two, four, filled, joined}
 
@@ -51,7 +52,7 @@ root_layout = layout 4096 0x52 0x54 0
 -- how many of the ends are at or below x: where they rise, the number of x's interval
 abbrev pub position : ℕ → List ℕ → ℕ
 position x [] = 0
-position x (e ∷ es) = cond (nat_le e x) (suc (position x es)) (position x es)
+position x (e ∷ es) = if nat_le e x then suc (position x es) else position x es
 
 -- the number of the cell of the point ps, where n counts the intervals of the keys before
 abbrev pub place_from : ℕ → List (List ℕ) → List ℕ → ℕ
@@ -70,10 +71,6 @@ named_in img m = slice_index_or img.cells m (record { page = 0; level = 0 })
 -- what the image names at a point
 abbrev pub tile_at : Image → List ℕ → Tile
 tile_at img p = named_in img (cell_of img p)
-
--- each number is above the one before it
-abbrev pub Rising : List ℕ → Type 0
-Rising es = (j : ℕ) → suc j < length es → slice_index es j < slice_index es (suc j)
 
 -- how many inner boundaries there are
 abbrev pub inner : List (List ℕ) → ℕ

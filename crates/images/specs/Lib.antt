@@ -8,4 +8,6 @@ pub mod Loops
 pub mod Memory
 pub mod Paged
 pub mod Parts
+pub mod SideBySide
+pub mod Sizes
 pub mod Tilings

@@ -1,5 +1,5 @@
 -- Tilings of a box, the image of a tiling, and the tiling of an image.
-use Rattle.std.specs.Prelude.{◌≡◌, ℕ, zero, suc, ◌+◌, ◌<◌, ◌≤◌, true, cond, ◌⊎◌, List, [], ◌∷◌, map, length, nat_lt, slice_index, slice_index_or}
+use Rattle.std.specs.Prelude.{◌≡◌, ℕ, zero, suc, ◌+◌, ◌<◌, ◌≤◌, true, if◌then◌else◌, ◌⊎◌, List, [], ◌∷◌, map, length, nat_lt, slice_index, slice_index_or}
 use Rattle.boxes.specs.Cuts.{Path, In, around}
 use Rattle.boxes.specs.Points.{Point, path, lows}
 use Rattle.boxes.specs.Rising.{insert}
@@ -42,7 +42,7 @@ pub record Depicts (ws ord : List ℕ) (b : Path) (ts : List Piece) (img : Image
 -- what the first of the pieces on the way to a point gives a cell to name
 abbrev pub found : Path → List Piece → Tile
 found w [] = record { page = 0; level = 0 }
-found w (t ∷ ts) = cond (around t.box w) (tile_of t) (found w ts)
+found w (t ∷ ts) = if around t.box w then tile_of t else found w ts
 
 -- f 0, f 1, .. f (n - 1)
 abbrev pub listed : {A : Type 0} → ℕ → (ℕ → A) → List A
@@ -52,7 +52,7 @@ listed (suc n) f = f 0 ∷ listed n (λ i. f (suc i))
 -- the different numbers of the list that are above l, rising
 abbrev pub over : ℕ → List ℕ → List ℕ
 over l [] = []
-over l (x ∷ xs) = cond (nat_lt l x) (insert x (over l xs)) (over l xs)
+over l (x ∷ xs) = if nat_lt l x then insert x (over l xs) else over l xs
 
 -- the pieces' lower ends in key i
 abbrev pub lower_ends : List ℕ → List ℕ → ℕ → List Piece → List ℕ

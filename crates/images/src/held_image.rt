@@ -4,12 +4,13 @@ ghost use Rattle.images.specs.Directory.{intervals};
 ghost use Rattle.images.specs.Parts.{parted, total, AllRising};
 
 // What a cell names: the page of a box, and its level.
-#[derive(Clone, Copy)]
+#[derive(Clone, Copy, PartialEq, Eq, Debug)]
 pub struct Named {
     pub page: u16,
     pub level: u8,
 }
 
+// Fixed arrays with counts, since nothing here allocates. Two images are not compared by `==`, which would see what stands behind the counts.
 #[derive(Clone, Copy)]
 pub struct HeldImage<const ENDS: usize, const CELLS: usize> {
     pub keys: usize,
@@ -26,6 +27,7 @@ pub struct HeldImage<const ENDS: usize, const CELLS: usize> {
     ghost few: { keys ≤ 4 },
     ghost wide: { length (take keys counts) ≡ keys },
     ghost long: { length ends ≡ ENDS },
+    ghost many: { length cells ≡ CELLS },
     ghost room: { total (take keys counts) ≤ ENDS },
     ghost small: { intervals (parted (take keys counts) ends) ≤ CELLS },
     // The ends of each key rise.

@@ -9,13 +9,18 @@ mod checking;
 mod fits;
 mod held_image;
 mod held_images;
+mod image_size;
+mod key_check;
+mod key_ends;
 mod one_cell;
-mod ordering;
 mod positions;
+mod side_by_side;
 mod spans;
 
 pub use held_image::{DirectoryImage, HeldImage, Named, RootImage};
-pub use positions::position_of;
+pub use image_size::ImageSize;
+pub use key_ends::KeyEnds;
+pub use positions::{interval_start, position_of};
 
 // Computes nothing: its promise is the laws of images.
 pub fn image_laws_stand() -> u8

@@ -1,5 +1,5 @@
 // How wide the boxes of a level are.
-ghost use Rattle.std.specs.Prelude.{◌≡◌, ◌^◌, ◌<◌, ◌≤◌};
+ghost use Rattle.std.specs.Prelude.{◌≡◌, ◌^◌, ◌<◌, ◌≤◌, ◌==◌, count_by};
 ghost use Rattle.boxes.specs.Space.{span};
 ghost use Rattle.boxes.specs.Spaces.{widths_of, order_of};
 
@@ -12,12 +12,17 @@ pub(crate) fn span_of(space: &Space, level: usize, key: usize) -> u64
     ensures some { 0 < result }
     ensures most { result ≤ 2 ^ 32 }
 {
-    let mut bits = space.widths[key];
     let last = level.min(space.depth);
-    for l in 0..last {
-        if space.halvings[l] as usize == key {
-            bits -= 1;
-        }
-    }
-    1 << bits
+    let halvings = halvings_of(&space.halvings[..last], key);
+    1 << (space.widths[key] as usize - halvings)
+}
+
+// How many of the halvings are of the key.
+fn halvings_of(halvings: &[u8], key: usize) -> usize
+    ensures { result ≡ count_by (λ halved. key == halved) halvings.now }
+{
+    halvings
+        .iter()
+        .filter(|halved| key == **halved as usize)
+        .count()
 }

@@ -1,5 +1,5 @@
 -- A format: the short way to state the meaning of a kind, by a test and by the keys of what passes it.
-use Rattle.std.specs.Prelude.{ℕ, Bool, true, cond, ◌&&◌, List, [], ◌∷◌, length, Some, None, Option, ◌==◌, nat_lt}
+use Rattle.std.specs.Prelude.{ℕ, Bool, true, if◌then◌else◌, ◌&&◌, List, [], ◌∷◌, length, Some, None, ◌==◌, nat_lt}
 use Rattle.boxes.specs.Order.{order}
 use Rattle.kinds.specs.Meaning.{Meaning}
 
@@ -34,5 +34,5 @@ meaning_of f = record {
   halvings = order f.widths;
   size = f.size;
   capacity = f.capacity;
-  read = λ bs. cond (is_record f bs) (Some (f.keys bs)) None;
+  read = λ bs. if is_record f bs then Some (f.keys bs) else None;
 }

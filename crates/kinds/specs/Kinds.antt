@@ -1,5 +1,5 @@
 -- The formats of the five kinds. Marks are hexadecimal, other numbers decimal.
-use Rattle.std.specs.Prelude.{ℕ, ◌*◌, ◌^◌, Bool, cond, ◌&&◌, ◌||◌, List, [], ◌∷◌, ℤ, pos, neg_ℤ, ◌==◌, int_le, nat_le, nat_lt}
+use Rattle.std.specs.Prelude.{ℕ, ◌*◌, ◌^◌, Bool, if◌then◌else◌, ◌&&◌, ◌||◌, List, [], ◌∷◌, ℤ, pos, neg_ℤ, ◌==◌, int_le, nat_le, nat_lt}
 use Rattle.kinds.specs.Fields.{byte, be2, be3, be4, signed2, marked, within}
 use Rattle.kinds.specs.Formats.{Format}
 
@@ -35,7 +35,7 @@ is_measured d e = nat_le e 3 && nat_le d 999 && (e == 0 || nat_le 100 d)
 
 -- the kilohms of both; over range is the greatest key of 20 bits
 abbrev pub kilohms : ℕ → ℕ → ℕ
-kilohms d e = cond (is_over_range d e) 1048575 (d * 10 ^ e)
+kilohms d e = if is_over_range d e then 1048575 else d * 10 ^ e
 
 -- bytes 2 and 3 are the day, 4 is the array, 5 and 6 the digits, 7 the power, 8 the surface (0 dry, 1 damp, 2 wet), 9 to 11 are zero
 abbrev pub is_insulation : List ℕ → Bool

@@ -1,74 +1,52 @@
 // Kind D, daylight: what a string of panels gave in an hour.
 ghost use Rattle.std.specs.Prelude.{◌≡◌, refl};
-ghost use Rattle.boxes.specs.Spaces.{widths_of};
-ghost use Rattle.kinds.specs.Formats.{is_record, meaning_of};
-ghost use Rattle.kinds.specs.Kinds.{daylight as format, is_current, daylight};
+ghost use Rattle.kinds.specs.Kinds.{is_current, daylight};
 ghost use Rattle.std.proofs.Common.{arith};
 ghost use Rattle.kinds.specs.FormatsLemmas.{lawful_of};
 
-use crate::fields::{be16, be32, has_mark, has_size, signed16};
-use crate::kind::Kind;
-use boxes::{Keys, Space};
+use crate::fields::{be16, be32, byte, has_mark, signed16};
+use crate::kind_of::KindOf;
+use crate::record_format::RecordFormat;
+use boxes::Keys;
 
 #[derive(Clone, Copy)]
-pub struct Daylight {
-    space: Space,
-    ghost widths: { widths_of space ≡ format.widths },
-}
+pub struct DaylightFormat;
 
-impl Daylight {
-    pub fn new() -> Daylight
-        ensures { widths_of result.space ≡ format.widths }
-    {
-        let Some(space) = Space::new(&[18, 5, 14]) else {
-            unreachable()
-        };
-        Daylight { space }
-    }
-}
+pub type Daylight = KindOf<DaylightFormat>;
 
-impl Kind for Daylight {
-    ghost meaning = { λ _. meaning_of format };
+impl RecordFormat for DaylightFormat {
+    ghost format = { daylight };
 
-    ghost lawful = { λ _. lawful_of daylight refl (λ bs small long t. (Prim.grind arith, (Prim.grind arith, (Prim.grind arith, tt)))) };
+    ghost lawful = { lawful_of daylight refl (λ bs small long t. (Prim.grind arith, (Prim.grind arith, (Prim.grind arith, tt)))) };
 
-    fn space(&self) -> Space {
-        self.space
+    fn widths() -> &'static [u8] {
+        &[18, 5, 14]
     }
 
-    fn size(&self) -> usize {
+    fn size() -> usize {
         16
     }
 
-    fn capacity(&self) -> usize {
+    fn capacity() -> usize {
         31
     }
 
-    fn keys(&self, bytes: &[u8]) -> Option<Keys> {
-        if !is_record(bytes) {
-            return None;
-        }
-        Some(Keys {
-            count: 3,
-            values: [be32(bytes, 4), bytes[2] as u32, be16(bytes, 8) as u32, 0],
-        })
+    fn accepts(bytes: &[u8]) -> bool {
+        has_mark(bytes, [0x44, 0x52])
+            && (1..=24).contains(&byte(bytes, 2))
+            && byte(bytes, 3) == 0
+            && be32(bytes, 4) < 262144
+            && be16(bytes, 8) <= 15000
+            && is_current(signed16(bytes, 10))
     }
-}
 
-fn is_record(bytes: &[u8]) -> bool
-    ensures { result ≡ is_record format bytes.now }
-{
-    has_size(bytes, 16)
-        && has_mark(bytes, [0x44, 0x52])
-        && (1 <= bytes[2] && bytes[2] <= 24)
-        && bytes[3] == 0
-        && be32(bytes, 4) < 262144
-        && be16(bytes, 8) <= 15000
-        && is_current(signed16(bytes, 10))
+    fn keys(bytes: &[u8]) -> Option<Keys> {
+        Keys::new(&[be32(bytes, 4), byte(bytes, 2) as u32, be16(bytes, 8) as u32])
+    }
 }
 
 fn is_current(hundredths: i16) -> bool
     ensures { result ≡ is_current hundredths }
 {
-    -3000 <= hundredths && hundredths <= 3000
+    (-3000..=3000).contains(&hundredths)
 }

@@ -1,62 +1,41 @@
 // Kind T, trial: two keys of two bits, to try the grid by hand.
-ghost use Rattle.std.specs.Prelude.{◌≡◌, refl};
-ghost use Rattle.boxes.specs.Spaces.{widths_of};
-ghost use Rattle.kinds.specs.Formats.{is_record, meaning_of};
-ghost use Rattle.kinds.specs.Kinds.{trial_t as format, trial_t};
+ghost use Rattle.std.specs.Prelude.{refl};
+ghost use Rattle.kinds.specs.Kinds.{trial_t};
 ghost use Rattle.std.proofs.Common.{arith};
 ghost use Rattle.kinds.specs.FormatsLemmas.{lawful_of};
 
-use crate::fields::{has_mark, has_size};
-use crate::kind::Kind;
-use boxes::{Keys, Space};
+use crate::fields::{byte, has_mark};
+use crate::kind_of::KindOf;
+use crate::record_format::RecordFormat;
+use boxes::Keys;
 
 #[derive(Clone, Copy)]
-pub struct TrialT {
-    space: Space,
-    ghost widths: { widths_of space ≡ format.widths },
-}
+pub struct TrialTFormat;
 
-impl TrialT {
-    pub fn new() -> TrialT
-        ensures { widths_of result.space ≡ format.widths }
-    {
-        let Some(space) = Space::new(&[2, 2]) else {
-            unreachable()
-        };
-        TrialT { space }
-    }
-}
+pub type TrialT = KindOf<TrialTFormat>;
 
-impl Kind for TrialT {
-    ghost meaning = { λ _. meaning_of format };
+impl RecordFormat for TrialTFormat {
+    ghost format = { trial_t };
 
-    ghost lawful = { λ _. lawful_of trial_t refl (λ bs small long t. (Prim.grind arith, (Prim.grind arith, tt))) };
+    ghost lawful = { lawful_of trial_t refl (λ bs small long t. (Prim.grind arith, (Prim.grind arith, tt))) };
 
-    fn space(&self) -> Space {
-        self.space
+    fn widths() -> &'static [u8] {
+        &[2, 2]
     }
 
-    fn size(&self) -> usize {
+    fn size() -> usize {
         4
     }
 
-    fn capacity(&self) -> usize {
+    fn capacity() -> usize {
         2
     }
 
-    fn keys(&self, bytes: &[u8]) -> Option<Keys> {
-        if !is_record(bytes) {
-            return None;
-        }
-        Some(Keys {
-            count: 2,
-            values: [bytes[2] as u32, bytes[3] as u32, 0, 0],
-        })
+    fn accepts(bytes: &[u8]) -> bool {
+        has_mark(bytes, [0x54, 0x57]) && byte(bytes, 2) <= 3 && byte(bytes, 3) <= 3
     }
-}
 
-fn is_record(bytes: &[u8]) -> bool
-    ensures { result ≡ is_record format bytes.now }
-{
-    has_size(bytes, 4) && has_mark(bytes, [0x54, 0x57]) && bytes[2] <= 3 && bytes[3] <= 3
+    fn keys(bytes: &[u8]) -> Option<Keys> {
+        Keys::new(&[byte(bytes, 2) as u32, byte(bytes, 3) as u32])
+    }
 }

@@ -5,4 +5,4 @@ mod rainfall;
 #[cfg(test)]
 mod tests;
 
-pub use rainfall::Rainfall;
+pub use rainfall::{Rainfall, RainfallFormat};

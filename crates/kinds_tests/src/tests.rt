@@ -16,9 +16,9 @@ fn states<K: Kind>(rt: &impl Abort, kind: &K, widths: &[u8], size: usize, capaci
 
 fn reads<K: Kind>(rt: &impl Abort, kind: &K, rows: &[Row]) -> Result<(), Fail> {
     for (bytes, keys) in rows {
-        let Some(found) = kind.keys(bytes) else {
-            return Err(Fail::new("a record was refused"));
-        };
+        let found = kind
+            .keys(bytes)
+            .ok_or_else(|| Fail::new("a record was refused"))?;
         assert!(rt; found.as_slice() == *keys);
     }
     Ok(())
@@ -233,11 +233,13 @@ fn rainfall(rt: HostRuntime) -> Result<(), Fail> {
 fn fields(rt: HostRuntime) {
     let bytes = b"\x01\x02\xFE\xDC";
     assert!(rt; has_mark(bytes, [1, 2]) && !has_mark(bytes, [1, 3]) && !has_mark(bytes, [0, 2]));
+    assert_eq!(rt; byte(bytes, 2), 0xFE);
     assert_eq!(rt; be16(bytes, 1), 0x02FE);
     assert_eq!(rt; be24(bytes, 1), 0x02FEDC);
     assert_eq!(rt; be32(bytes, 0), 0x0102FEDC);
     assert_eq!(rt; signed16(bytes, 2), -292);
     // what would lie past the end counts as zero
+    assert_eq!(rt; byte(bytes, 4), 0);
     assert_eq!(rt; be16(bytes, 3), 0xDC00);
     assert_eq!(rt; be32(bytes, 255), 0);
 }

@@ -1,39 +1,24 @@
 -- The words of a text, one after another.
-use Rattle.std.proofs.Common.{◌≡◌, ℕ, zero, suc, ◌+◌, ◌-◌, ◌<◌, ◌≤◌, cond, leb, ◌≢◌, ◌⊎◌, List, [], ◌∷◌, map, length, get_or, take, drop, set, decimal, sym, refl, ap, ◌∙◌, subst, ap₂, inl, inr, arith}
+use Rattle.std.proofs.Common.{◌≡◌, ℕ, zero, suc, ◌+◌, ◌-◌, ◌<◌, ◌≤◌, ◌≢◌, List, [], ◌∷◌, map, length, get_or, drop, set, decimal, Some, None, Option, Bor, sym, refl, ap, ◌∙◌, subst, ap₂, inl, inr, arith}
 use Rattle.std.specs.List.{AllByRecursion}
 use Rattle.std.proofs.lemmas.Fmt.{decimal_injective}
 use Rattle.std.proofs.ByRecursion.{All-get_or}
-use Rattle.std.proofs.lemmas.List.{drop-drop, get_or-drop, get_or-map, get_or-set_same, get_or-set_other, length-drop, length-map, length-set}
-use Rattle.std.proofs.lemmas.Bool.{cases_eq, eq-eqb, ne_eqb, le-leb, lt-leb}
-use Rattle.std.proofs.lemmas.Bool.Decides.{nat_tests}
+use Rattle.std.specs.Iterator.{Yields}
+use Rattle.std.proofs.lemmas.Iterator.{YieldsList}
+use Rattle.std.proofs.lemmas.Iterator.Consumers.{YieldsList-turn, YieldsList-end}
+use Rattle.std.proofs.lemmas.List.{get_or_default, drop-drop, get_or-drop, length-drop, get_or-map, get_or-set_same, get_or-set_other, length-map, length-set}
+use Rattle.std.proofs.lemmas.Bool.{cases_eq}
 use Rattle.numbers.specs.Numbers.{Writes}
-use Rattle.numbers.specs.Words.{words, grow, FirstAt}
 
--- the words from place s of the text on: none past its end
-abbrev pub words_from : ℕ → List ℕ → ℕ → List (List ℕ)
-words_from m bs s = cond (leb s (length bs)) (words m (drop s bs)) []
+-- the word of a turn of a loop over the words, and the words after its end
+module _ {S : Type 0} {steps : S → Option (Bor (List ℕ)) → S → Type 0} {s : S} {ws : List (List ℕ)} (xs : List (Bor (List ℕ))) (t : S) (y : Yields steps s xs t) where
+  pub word_here : (r : Option (Bor (List ℕ))) (u : S) (x : Bor (List ℕ)) → r ≡ Some x → steps t r u → YieldsList steps (λ w. w.now) s ws → (length xs < length ws) × (x.now ≡ get_or ws (length xs) [])
+  word_here r u x is on road =
+      let h = YieldsList-turn road xs t y r u x is on in
+      (h.0, h.1 ∙ get_or_default ws (length xs) x.now [] h.0)
 
--- the first word ends at n
-first_word : (m : ℕ) (bs : List ℕ) (n : ℕ) → n ≤ length bs → ((i : ℕ) → i < n → get_or bs i 0 ≡ m → ⊥) → (n ≡ length bs) ⊎ (get_or bs n 0 ≡ m) → words m bs ≡ take n bs ∷ words_from m bs (suc n)
-first_word m [] zero h w e = refl
-first_word m [] (suc n) h w e = absurd (omega arith)
-first_word m (b ∷ bs) zero h w (inl e) = absurd (omega arith)
-first_word m (b ∷ bs) zero h w (inr e) =
-    ap (λ t. cond t ([] ∷ words m bs) (grow b (words m bs))) (eq-eqb b m e) ∙ ap (λ t. [] ∷ cond t (words m bs) []) (sym (le-leb 1 (suc (length bs)) (omega arith)))
-first_word m (b ∷ bs) (suc n) h w e =
-    let ih = first_word m bs n (omega arith) (λ i k. w (suc i) (omega arith)) (elim e [ inl q ↦ inl (omega arith) | inr q ↦ inr q ]) in
-    let past : leb (suc n) (length bs) ≡ leb (suc (suc n)) (suc (length bs)) = grind (arith, nat_tests) in
-    ap (λ t. cond t ([] ∷ words m bs) (grow b (words m bs))) (ne_eqb b m (w 0 (omega arith))) ∙ ap (grow b) ih ∙ ap (λ t. (b ∷ take n bs) ∷ cond t (words m (drop (suc n) bs)) []) past
-
-pub next_word : (m : ℕ) (bs : List ℕ) (s r : ℕ) → s ≤ length bs → FirstAt bs s m r → (s ≤ r) × (words m (drop s bs) ≡ take (r - s) (drop s bs) ∷ words_from m bs (r + 1))
-next_word m bs s r h f =
-    let le : s ≤ r = elim f.2 [ inl e ↦ omega arith | inr e ↦ e.0 ] in
-    let long = length-drop s bs in
-    let first = first_word m (drop s bs) (r - s) (omega (arith, f.0)) (λ i k q. f.1 (s + i) (omega arith) (omega arith) (sym (get_or-drop s bs i 0) ∙ q))
-    (elim f.2 [ inl e ↦ inl (omega arith) | inr e ↦ inr (get_or-drop s bs (r - s) 0 ∙ ap (λ i. get_or bs i 0) (omega arith) ∙ e.2) ]) in
-    let past : leb (suc (r - s)) (length bs - s) ≡ leb (r + 1) (length bs) = grind (arith, nat_tests) in
-    let on : drop (suc (r - s)) (drop s bs) ≡ drop (r + 1) bs = drop-drop (suc (r - s)) s bs ∙ ap (λ i. drop i bs) (omega arith) in
-    (le, first ∙ ap₂ (λ t us. take (r - s) (drop s bs) ∷ cond t (words m us) []) (ap (leb (suc (r - s))) long ∙ past) on)
+  pub words_end : (r : Option (Bor (List ℕ))) (u : S) → r ≡ None → steps t r u → YieldsList steps (λ w. w.now) s ws → length xs ≡ length ws
+  words_end r u is on road = (YieldsList-end road xs t y r u is on).1
 
 -- a list from place n on: its first element, and the rest
 pub rest_first : {A : Type 0} (xs : List A) (n : ℕ) (y : A) (ys : List A) (d : A) → drop n xs ≡ y ∷ ys → (n < length xs) × (get_or xs n d ≡ y) × (drop (n + 1) xs ≡ ys)
@@ -69,12 +54,6 @@ module _ (f : List ℕ) (ws : List (List ℕ)) (count n : ℕ) (long : length f 
     ],
     λ j k. zeros j (omega arith),
   )
-
-pub rest_here : (m : ℕ) (bs : List ℕ) (s : ℕ) → s ≤ length bs → words_from m bs s ≡ words m (drop s bs)
-rest_here m bs s h = ap (λ t. cond t (words m (drop s bs)) []) (le-leb s (length bs) h)
-
-pub rest_none : (m : ℕ) (bs : List ℕ) (s : ℕ) → length bs < s → words_from m bs s ≡ []
-rest_none m bs s h = ap (λ t. cond t (words m (drop s bs)) []) (lt-leb s (length bs) h)
 
 pub all_zero : (j : ℕ) → ◌≡◌ {A = ℕ} (get_or (0 ∷ 0 ∷ 0 ∷ 0 ∷ 0 ∷ 0 ∷ 0 ∷ 0 ∷ []) j 0) 0
 all_zero zero = refl

@@ -1,11 +1,11 @@
 // Lines of whole numbers, as the programs read them: decimal, without leading zeros, single spaces between them.
 #![tactic(auto)]
 
-ghost use Rattle.std.specs.Prelude.{◌≡◌, ◌<◌, ◌≤◌, length, Decides, slice_index};
+ghost use Rattle.std.specs.Prelude.{◌≡◌, ◌<◌, ◌≤◌, ◌↔◌, length, IsTrue, slice_index};
 ghost use Rattle.numbers.specs.Numbers.{DigitsRead, WholeRead, WholeUpTo, RowRead, RowReadAt};
 ghost use Rattle.numbers.specs.Words.{FirstAt};
 
-// The numbers of a line: how many there are, and the first eight of them.
+// The numbers of a line: how many there are, and the first eight of them. A library here takes no heap, so the list is an array with its count.
 #[derive(Clone, Copy)]
 pub struct Row {
     pub count: usize,
@@ -26,9 +26,7 @@ fn whole_up_to(text: &[u8], greatest: u32) -> Option<u32>
     if text.len() == 0 || text.len() > 10 || has_leading_zero(text) {
         return None;
     }
-    let Some(number) = digits(text) else {
-        return None;
-    };
+    let number = digits(text)?;
     if number > greatest as u64 {
         return None;
     }
@@ -37,19 +35,19 @@ fn whole_up_to(text: &[u8], greatest: u32) -> Option<u32>
 
 // Does a zero stand before another byte?
 fn has_leading_zero(text: &[u8]) -> bool
-    ensures { Decides result ((1 < length text.now) × (slice_index text.now 0 ≡ 48)) }
+    ensures { IsTrue result ↔ ((1 < length text.now) × (slice_index text.now 0 ≡ 48)) }
 {
-    text.len() > 1 && text[0] == b'0'
+    matches!(text, [b'0', _, ..])
 }
 
-// The value of at most ten digits; none if one of the bytes is no digit.
+// The value of at most ten digits; none if one of the bytes is no digit. The library's `parse` would take a sign and leading zeros.
 fn digits(text: &[u8]) -> Option<u64>
     requires { length text.now ≤ 10 }
     ensures { DigitsRead text.now result }
 {
     let mut number: u64 = 0;
     for byte in text {
-        if *byte < b'0' || *byte > b'9' {
+        if !byte.is_ascii_digit() {
             return None;
         }
         number = 10 * number + (*byte - b'0') as u64;
@@ -57,16 +55,14 @@ fn digits(text: &[u8]) -> Option<u64>
     Some(number)
 }
 
-// The first place from `from` on at which the mark stands, or the length where there is none.
+// The first place from `from` on at which the mark stands, or the length where there is none: a part of the text ends there either way.
 pub fn until(text: &[u8], from: usize, mark: u8) -> usize
     ensures { FirstAt text.now from mark result }
 {
-    for i in from..text.len() {
-        if text[i] == mark {
-            return i;
-        }
+    match text.iter().skip(from).position(|byte| *byte == mark) {
+        Some(i) => from + i,
+        None => text.len(),
     }
-    text.len()
 }
 
 // The numbers of a line, with single spaces between them; none if some word of the line is no number.
@@ -82,17 +78,13 @@ fn row_of(line: &[u8], mark: u8) -> Option<Row>
 {
     let mut count: usize = 0;
     let mut first = [0; 8];
-    let mut start: usize = 0;
-    while start <= line.len() {
-        let end = until(line, start, mark);
-        let Some(number) = whole(&line[start..end]) else {
-            return None;
-        };
+    for word in line.split(|byte| *byte == mark) {
+        let number = whole(word)?;
+        // The count goes on past the eight that are kept.
         if count < 8 {
             first[count] = number;
         }
         count += 1;
-        start = end + 1;
     }
     Some(Row { count, first })
 }

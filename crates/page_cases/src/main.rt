@@ -10,10 +10,7 @@ use std::io;
 fn main(rt: HostRuntime) -> io::Result<()> {
     for line in rt.lines(rt.alloc()) {
         let line = line?;
-        let verdict = match PageCase::read(line.as_bytes()) {
-            Some(case) => case.verdict(),
-            None => "?",
-        };
+        let verdict = PageCase::read(line.as_bytes()).map_or("?", |case| case.verdict());
         println!(rt; "{verdict}")?;
     }
     Ok(())

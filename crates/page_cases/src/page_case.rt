@@ -5,52 +5,66 @@ use boxes::{GridBox, Keys};
 use buckets::is_bucket;
 use image_bytes::read_directory;
 use kinds::{Daylight, Insulation, Kind, TrialT, TrialU, TrialX};
-use numbers::{until, whole};
+use numbers::whole;
+
+#[derive(Clone, Copy)]
+enum RecordKind {
+    Daylight,
+    Insulation,
+    TrialT,
+    TrialU,
+    TrialX,
+}
+
+#[derive(Clone, Copy)]
+enum Sort {
+    Directory,
+    Bucket,
+}
 
 #[derive(Clone, Copy)]
 pub(crate) struct PageCase {
-    kind: char,
-    is_directory: bool,
+    kind: RecordKind,
+    sort: Sort,
     pages: usize,
     level: usize,
     low: Keys,
     page: [u8; 512],
 }
 
-// The word at a place of the line, and the place behind it.
-fn word(line: &[u8], start: usize) -> Option<(&[u8], usize)> {
-    if start > line.len() {
-        return None;
-    }
-    let end = until(line, start, b' ');
-    Some((&line[start..end], end + 1))
-}
-
-fn letter(text: &[u8]) -> Option<char> {
+fn kind_of(text: &[u8]) -> Option<RecordKind> {
     match text {
-        [only] => Some(char::from(*only)),
+        [b'D'] => Some(RecordKind::Daylight),
+        [b'I'] => Some(RecordKind::Insulation),
+        [b'T'] => Some(RecordKind::TrialT),
+        [b'U'] => Some(RecordKind::TrialU),
+        [b'X'] => Some(RecordKind::TrialX),
         _ => None,
     }
 }
 
-// At most four numbers with commas between them.
-fn lower_ends(text: &[u8]) -> Option<Keys> {
-    let mut values = [0; 4];
-    let mut count: usize = 0;
-    let mut start: usize = 0;
-    while start <= text.len() {
-        let end = until(text, start, b',');
-        if count == 4 {
-            return None;
-        }
-        values[count] = whole(&text[start..end])?;
-        count += 1;
-        start = end + 1;
+// What is one byte and not `d` names a bucket page.
+fn sort_of(text: &[u8]) -> Option<Sort> {
+    match text {
+        [b'd'] => Some(Sort::Directory),
+        [_] => Some(Sort::Bucket),
+        _ => None,
     }
-    Keys::new(&values[0..count])
 }
 
-// The value of a hexadecimal digit in lower case.
+// At most four numbers with commas between them. How many there are follows from the places left free.
+fn lower_ends(text: &[u8]) -> Option<Keys> {
+    let mut values = [0; 4];
+    let mut free = values.iter_mut();
+    for number in text.split(|byte| *byte == b',') {
+        *free.next()? = whole(number)?;
+    }
+    let left = free.len();
+    let used = values.len().checked_sub(left)?;
+    Keys::new(values.get(..used)?)
+}
+
+// The value of a hexadecimal digit in lower case. By hand, since `from_str_radix` takes upper case and signs too.
 fn hex_digit(byte: u8) -> Option<u8>
     ensures { IfSome result (λ d. d < 16) }
 {
@@ -70,40 +84,40 @@ fn page_of(hex: &[u8]) -> Option<[u8; 512]> {
     if hex.len() % 2 != 0 || hex.len() > 1024 {
         return None;
     }
-    for i in 0..hex.len() / 2 {
-        let high = hex_digit(hex[2 * i])?;
-        let low = hex_digit(hex[2 * i + 1])?;
-        page[i] = high * 16 + low;
+    for (byte, digits) in page.iter_mut().zip(hex.chunks_exact(2)) {
+        *byte = byte_of(digits)?;
     }
     Some(page)
 }
 
+// The byte that two hexadecimal digits write.
+fn byte_of(digits: &[u8]) -> Option<u8> {
+    match digits {
+        [high, low] => Some(hex_digit(*high)? * 16 + hex_digit(*low)?),
+        _ => None,
+    }
+}
+
 impl PageCase {
     pub(crate) fn read(line: &[u8]) -> Option<PageCase> {
-        let (kind, at) = word(line, 0)?;
-        let (sort, at) = word(line, at)?;
-        let (pages, at) = word(line, at)?;
-        let (level, at) = word(line, at)?;
-        let (low, at) = word(line, at)?;
-        let (hex, _) = word(line, at)?;
+        let mut words = line.split(|byte| *byte == b' ');
         Some(PageCase {
-            kind: letter(kind)?,
-            is_directory: letter(sort)? == 'd',
-            pages: whole(pages)? as usize,
-            level: whole(level)? as usize,
-            low: lower_ends(low)?,
-            page: page_of(hex)?,
+            kind: kind_of(words.next()?)?,
+            sort: sort_of(words.next()?)?,
+            pages: whole(words.next()?)? as usize,
+            level: whole(words.next()?)? as usize,
+            low: lower_ends(words.next()?)?,
+            page: page_of(words.next()?)?,
         })
     }
 
     pub(crate) fn verdict(&self) -> &'static str {
         match self.kind {
-            'D' => self.verdict_of(&Daylight::new()),
-            'I' => self.verdict_of(&Insulation::new()),
-            'T' => self.verdict_of(&TrialT::new()),
-            'U' => self.verdict_of(&TrialU::new()),
-            'X' => self.verdict_of(&TrialX::new()),
-            _ => "?",
+            RecordKind::Daylight => self.verdict_of(&Daylight::new()),
+            RecordKind::Insulation => self.verdict_of(&Insulation::new()),
+            RecordKind::TrialT => self.verdict_of(&TrialT::new()),
+            RecordKind::TrialU => self.verdict_of(&TrialU::new()),
+            RecordKind::TrialX => self.verdict_of(&TrialX::new()),
         }
     }
 
@@ -112,10 +126,9 @@ impl PageCase {
         let Some(inner) = GridBox::around(&space, self.level, self.low.as_slice()) else {
             return "?";
         };
-        let lawful = if self.is_directory {
-            read_directory(&inner, self.pages, &self.page).is_some()
-        } else {
-            is_bucket(kind, &inner, &self.page)
+        let lawful = match self.sort {
+            Sort::Directory => read_directory(&inner, self.pages, &self.page).is_some(),
+            Sort::Bucket => is_bucket(kind, &inner, &self.page),
         };
         if lawful { "lawful" } else { "broken" }
     }

@@ -1,5 +1,5 @@
 -- The promise over every run of calls.
-use Rattle.std.specs.Prelude.{◌≡◌, ℕ, ◌+◌, ◌*◌, ◌<◌, ◌≤◌, Bool, cond, List, [], ◌∷◌, length, Some, None, Ok, Err, Option, Result, nat_le}
+use Rattle.std.specs.Prelude.{◌≡◌, ℕ, ◌+◌, ◌*◌, ◌<◌, ◌≤◌, Bool, if◌then◌else◌, List, [], ◌∷◌, length, Some, None, Ok, Err, Option, Result, nat_le}
 use Rattle.boxes.specs.Cuts.{Path, In}
 use Rattle.boxes.specs.Laws.{Number}
 use Rattle.boxes.specs.Leaves.{Same}
@@ -23,7 +23,7 @@ pub record Boxes (m : Meaning) (held : List (List ℕ)) (d l : ℕ) : Type 0 whe
 
 -- insert's answer to a record with new keys: whether the root takes the boxes, and whether the store has the pages needed
 abbrev pub verdict : Bool → ℕ → ℕ → Result ℕ Refusal
-verdict fits needed pages = cond fits (cond (nat_le needed pages) (Ok needed) (Err StoreFull)) (Err RootFull)
+verdict fits needed pages = if fits then (if nat_le needed pages then Ok needed else Err StoreFull) else Err RootFull
 
 -- find's answer: the place in the buffer of the record held with these keys, or that none is held
 abbrev pub Found : Meaning → List (List ℕ) → List ℕ → List ℕ → Result (Option ℕ) Refusal → Type 0

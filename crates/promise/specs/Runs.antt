@@ -1,5 +1,5 @@
 -- Calls one after the other, the records held after them, and when a call is refused.
-use Rattle.std.specs.Prelude.{◌≡◌, ℕ, ◌*◌, ◌<◌, ◌≤◌, Bool, true, false, cond, not, ◌&&◌, List, [], ◌∷◌, length, is_some, Some, None, Ok, Err, filter, Option, Result, ◌==◌, nat_le}
+use Rattle.std.specs.Prelude.{◌≡◌, ℕ, ◌*◌, ◌<◌, ◌≤◌, Bool, true, false, if◌then◌else◌, not, ◌&&◌, List, [], ◌∷◌, length, is_some, Some, None, Ok, Err, filter, Option, Result, ◌==◌, nat_le}
 use Rattle.boxes.specs.Leaves.{tally}
 use Rattle.boxes.specs.Points.{Point}
 use Rattle.boxes.specs.Ranges.{IsRange}
@@ -57,7 +57,7 @@ without m ks held = filter (λ r. not (keyed m ks r)) held
 
 -- the records held after a call, in a store of n pages
 abbrev pub after_one : Meaning → ℕ → Call → List (List ℕ) → List (List ℕ)
-after_one m n (insert bytes) held = cond (accepts m n bytes held) (bytes ∷ held) held
+after_one m n (insert bytes) held = if accepts m n bytes held then bytes ∷ held else held
 after_one m n (delete ks) held = without m ks held
 after_one m n (find ks buffer) held = held
 after_one m n (count ls hs) held = held

@@ -5,7 +5,7 @@ ghost use Rattle.promise.specs.Refusals.{number};
 use crate::refusal::Refusal;
 
 impl Refusal {
-    // The refusal's number.
+    // The refusal's number, for whoever is told of it; the code goes by the cases.
     pub fn number(self) -> u8
         ensures { result ≡ number self }
     {

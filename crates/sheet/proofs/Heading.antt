@@ -1,5 +1,5 @@
 -- The capacity and the widths, from the numbers of the first line.
-use Rattle.std.proofs.Common.{◌≡◌, ℕ, zero, suc, ◌<◌, ◌≤◌, List, [], ◌∷◌, length, get_or, take, Some, None, Option, sym, refl, ap, ◌∙◌, subst, inl, inr, arith, ext_get_or}
+use Rattle.std.proofs.Common.{◌≡◌, ℕ, suc, ◌<◌, ◌≤◌, List, [], ◌∷◌, length, get_or, take, Some, None, Option, sym, refl, ap, ◌∙◌, subst, inl, inr, arith, ext_get_or}
 use Rattle.std.proofs.lemmas.List.{get_or_past, get_or-take, length-take}
 use Rattle.std.proofs.lemmas.Bool.{cases_lt}
 use Rattle.boxes.specs.declared.keys.Keys.{Keys}
@@ -41,10 +41,3 @@ first_and_rest (n ∷ ns) h = (n, ns, refl)
 pub point_read : (s : Space) (line ns : List ℕ) → Written line ns → ((ms : List ℕ) → Written line ms → ms ≡ ns) → (us : List ℕ) → us ≡ ns → (o : Option Keys) → PointMade s us o → PointRead s line o
 point_read s line ns w one us e None m = λ ks g. m (subst (Point (widths_of s)) (one ks g.0 ∙ sym e) g.1)
 point_read s line ns w one us e (Some p) m = (subst (Written line) (sym (m.1 ∙ e)) w, subst (Point (widths_of s)) (sym m.1) m.0)
-
-pub zeros_four : (j : ℕ) → ◌≡◌ {A = ℕ} (get_or (0 ∷ 0 ∷ 0 ∷ 0 ∷ []) j 0) 0
-zeros_four zero = refl
-zeros_four (suc zero) = refl
-zeros_four (suc (suc zero)) = refl
-zeros_four (suc (suc (suc zero))) = refl
-zeros_four (suc (suc (suc (suc j)))) = refl

@@ -1,5 +1,5 @@
 -- The rows that repeat a point: among readings in order, those whose keys are the keys of the one before.
-use Rattle.std.proofs.Common.{◌≡◌, ℕ, suc, ◌+◌, ◌-◌, ◌<◌, ◌≤◌, false, cond, ◌≢◌, ◌⊎◌, List, [], length, get_or, set, sym, refl, ap, ◌∙◌, subst, inl, inr, arith}
+use Rattle.std.proofs.Common.{◌≡◌, ℕ, suc, ◌+◌, ◌-◌, ◌<◌, ◌≤◌, false, cond, ◌≢◌, ◌⊎◌, List, [], ◌∷◌, length, get_or, set, sym, refl, ap, ◌∙◌, subst, inl, inr, add-one, arith}
 use Rattle.std.specs.List.Sorted.{IsPermutation, IsSortedWithin}
 use Rattle.std.specs.List.{AllByRecursion}
 use Rattle.std.specs.Cmp.{nat_cmp_total, then_total, on_total}
@@ -53,26 +53,17 @@ module _ (ss : List Reading) (vs after : List Verdict) (i : ℕ) (some : 1 ≤ i
     ],
   )
 
-  pub mark_same : ((get_or ss (i - 1) no_reading).0 ≡ here.0 → ⊥) → Marked (i + 1) ss vs after
-  mark_same d = (
-    inv.0,
-    λ r. elim (inv.1 r) [
-      | inl a ↦ inl (wider r a.0, a.1)
-      | inr n ↦ inr ((λ a. elim (last_again r a) [ inl b ↦ n.0 b | inr b ↦ d b.1 ]), n.1)
-    ],
-  )
-
-pub mark_none : (ss : List Reading) (vs : List Verdict) → Marked 1 ss vs vs
-mark_none ss vs = (refl, λ r. inr ((λ a. omega (arith, a.1)), refl))
-
-pub mark_all : (ss : List Reading) (vs after : List Verdict) (i : ℕ) → length ss ≤ i → i ≤ length ss + 1 → (1 ≤ length ss → i ≤ length ss) → Marked i ss vs after → Marked (length ss) ss vs after
-mark_all ss vs after i l n h m = (
-  m.0,
-  λ r. elim (m.1 r) [
-    | inl a ↦ inl ((a.0.0, elim (cases_lt 0 (length ss)) [ inl k ↦ omega (arith, h k, a.0.1) | inr g ↦ absurd (omega (arith, a.0.1)) ], a.0.2, a.0.3), a.1)
-    | inr d ↦ inr ((λ a. d.0 (a.0, omega (arith, a.1), a.2, a.3)), d.1)
-  ],
-)
+-- the same of the reading y behind x, where n were behind another before
+pub mark_behind : (ss rest : List Reading) (first x y : Reading) (vs after : List Verdict) (n m : ℕ) → Marked (n + 1) ss vs after → ss ≡ first ∷ rest → n < length rest → x ≡ get_or ss n no_reading → y ≡ get_or rest n no_reading → m ≡ n + 1
+    → InRows (length vs) ss → x.0 ≡ y.0 → Marked (m + 1) ss vs (set after y.1 Repeated)
+mark_behind ss rest first x y vs after n m inv e h ex ey em rows q =
+    let here : get_or ss (n + 1) no_reading ≡ y = ap (λ (us : List Reading). get_or us (n + 1) no_reading) e ∙ ap (λ i. get_or (first ∷ rest) i no_reading) (add-one n) ∙ sym ey in
+    let before : get_or ss (n + 1 - 1) no_reading ≡ x = ap (λ i. get_or ss i no_reading) (omega arith) ∙ sym ex in
+    let long : n + 1 < length ss = omega (arith, ap length e) in
+    let row = All-get_or (λ (s : Reading). s.1 < length vs) ss (n + 1) no_reading long rows in
+    subst (λ k. Marked (k + 1) ss vs (set after y.1 Repeated)) (sym em)
+    (subst (λ (s : Reading). Marked (n + 1 + 1) ss vs (set after s.1 Repeated)) here
+    (mark_more ss vs after (n + 1) (omega arith) inv (omega (arith, inv.0, row)) (ap (λ (s : Reading). s.0) before ∙ q ∙ ap (λ (s : Reading). s.0) (sym here))))
 
 -- what the marks say of the rows
 module _ (s : Space) (rows : List (List ℕ)) (vs : List Verdict) (ss : List Reading) (read : RowsRead s rows vs) (mixed : IsPermutation (readings_of 0 vs) ss) (up : IsSortedWithin less ss 0 (length ss)) where

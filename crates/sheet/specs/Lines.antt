@@ -1,5 +1,5 @@
 -- The lines of a text.
-use Rattle.std.specs.Prelude.{ℕ, cond, List, [], ◌∷◌, ◌==◌}
+use Rattle.std.specs.Prelude.{ℕ, if◌then◌else◌, List, [], ◌∷◌, ◌==◌}
 
 -- a byte more in front of the first line
 abbrev pub begin : ℕ → List (List ℕ) → List (List ℕ)
@@ -9,4 +9,4 @@ begin b (l ∷ ls) = (b ∷ l) ∷ ls
 -- a line ends at a line feed, byte 10, which is no part of it; the last may lack it if it is not empty
 abbrev pub lines : List ℕ → List (List ℕ)
 lines [] = []
-lines (b ∷ bs) = cond (b == 10) ([] ∷ lines bs) (begin b (lines bs))
+lines (b ∷ bs) = if b == 10 then [] ∷ lines bs else begin b (lines bs)

@@ -14,34 +14,27 @@ pub struct Header {
 pub(crate) fn read_header(line: &[u8]) -> Option<Header>
     ensures { HeaderRead line.now result }
 {
-    let Some(row) = numbers(line) else {
-        return None;
-    };
+    let row = numbers(line)?;
     if row.count < 2 || row.count > 5 || row.first[0] == 0 || row.first[0] > 169 {
         return None;
     }
-    let Some(widths) = widths_of(&row) else {
-        return None;
-    };
-    let Some(space) = Space::new(&widths[0..row.count - 1]) else {
-        return None;
-    };
+    let widths = widths_of(&row)?;
+    let space = Space::new(&widths[..row.count - 1])?;
     Some(Header {
         space,
         capacity: row.first[0] as usize,
     })
 }
 
-// The four numbers behind the first; none if one of them is above 32.
+// The four numbers behind the first; none if one of them is no byte.
 fn widths_of(row: &Row) -> Option<[u8; 4]>
     ensures { WidthsRead row.now.first result }
 {
-    let mut widths = [0u8; 4];
-    for i in 0..4 {
-        if row.first[i + 1] > 32 {
-            return None;
-        }
-        widths[i] = row.first[i + 1] as u8;
-    }
-    Some(widths)
+    let [_, first, second, third, fourth, ..] = row.first;
+    Some([
+        u8::try_from(first).ok()?,
+        u8::try_from(second).ok()?,
+        u8::try_from(third).ok()?,
+        u8::try_from(fourth).ok()?,
+    ])
 }

@@ -8,7 +8,7 @@ ghost use Rattle.sheet.specs.Rows.{Judged};
 
 use crate::rows::read_rows;
 use crate::verdict::Verdict;
-use boxes::{Keys, Space};
+use boxes::{Keys, Space, padded};
 use std::alloc::{AllocError, Global};
 
 // The keys of a point, with zeros behind them, and the row that writes it. The order is that of the keys, then of the rows.
@@ -35,8 +35,7 @@ fn readings_of(heap: Global, verdicts: &[Verdict]) -> Result<Vec<Reading>, Alloc
     ensures { IfOk result (λ v. v.items ≡ readings_of 0 verdicts.now) }
 {
     let mut readings = Vec::new(heap);
-    for row in 0..verdicts.len() {
-        let verdict = &verdicts[row];
+    for (row, verdict) in verdicts.iter().enumerate() {
         if let Verdict::Kept(point) = verdict {
             readings.push((four_keys(point), row))?;
         }
@@ -48,11 +47,7 @@ fn readings_of(heap: Global, verdicts: &[Verdict]) -> Result<Vec<Reading>, Alloc
 fn four_keys(point: &Keys) -> [u32; 4]
     ensures { result ≡ four (keys_of point.now) }
 {
-    let mut four = [0; 4];
-    for i in 0..point.count {
-        four[i] = point.values[i];
-    }
-    four
+    padded(point.as_slice(), 0).unwrap()
 }
 
 // Of readings in order, each whose keys are those of the one before it is of a row that repeats a point.
@@ -60,10 +55,12 @@ fn mark_repeats(sorted: &[Reading], verdicts: &mut [Verdict])
     requires { InRows (length verdicts.old) sorted.now }
     ensures { Marked (length sorted.now) sorted.now verdicts.old verdicts.new }
 {
-    for i in 1..sorted.len() {
-        let (earlier, _) = sorted[i - 1];
-        let (keys, row) = sorted[i];
-        if earlier == keys {
+    let Some((_, later)) = sorted.split_first() else {
+        return;
+    };
+    for (before, reading) in sorted.iter().zip(later) {
+        let (keys, row) = *reading;
+        if before.0 == keys {
             verdicts[row] = Verdict::Repeated;
         }
     }

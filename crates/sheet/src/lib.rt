@@ -27,7 +27,7 @@ pub fn answer(heap: Global, text: &[u8]) -> Result<String, AllocError>
     ensures only { IfOk result (λ t. (out : List ℕ) → Answered text.now out → out ≡ string_bytes t) }
 {
     let end = until(text, 0, b'\n');
-    let Some(header) = read_header(&text[0..end]) else {
+    let Some(header) = read_header(&text[..end]) else {
         return headless_text(heap);
     };
     let verdicts = judge_rows(heap, &header.space, text, end + 1)?;
@@ -40,7 +40,8 @@ pub fn answer(heap: Global, text: &[u8]) -> Result<String, AllocError>
     Ok(out)
 }
 
-// The figures of points of the space, with a room of just the size that they need.
+// The figures of points of the space.
+// That they are points stands at each of the three functions, and in no struct: it ties the header to the points of this one call, which come back in another order.
 fn figures_of(heap: Global, header: &Header, points: &mut [Keys]) -> Result<Figures, AllocError>
     requires { Points header.now.space points.old }
     ensures { IfOk result (λ f. f ≡ figures (widths_of header.now.space) header.now.capacity (map keys_of points.old)) }
@@ -50,7 +51,7 @@ fn figures_of(heap: Global, header: &Header, points: &mut [Keys]) -> Result<Figu
     Ok(figures_in(header, points, room.as_mut_slice()))
 }
 
-// How many directory boxes the points need.
+// How many directory boxes the points need: measured without a room, since only measuring tells its size.
 fn places_needed(header: &Header, points: &mut [Keys]) -> usize
     requires { Points header.now.space points.old }
     ensures number { result ≡ (figures (widths_of header.now.space) header.now.capacity (map keys_of points.old)).directory_boxes }
@@ -63,15 +64,11 @@ fn places_needed(header: &Header, points: &mut [Keys]) -> usize
     }
 }
 
-// The figures, in a room for all the directory boxes.
+// The figures, measured again in a room for all the directory boxes.
 fn figures_in(header: &Header, points: &mut [Keys], room: &mut [u32]) -> Figures
     requires points { Points header.now.space points.old }
     requires directory_boxes_in_bounds { (figures (widths_of header.now.space) header.now.capacity (map keys_of points.old)).directory_boxes ≤ length room.old }
     ensures { result ≡ figures (widths_of header.now.space) header.now.capacity (map keys_of points.old) }
 {
-    match measure(&header.space, header.capacity, points, room) {
-        Ok(figures) => figures,
-        Err(NotMeasured::ShortRoom(_)) => unreachable(),
-        Err(NotMeasured::NotPoints) => unreachable(),
-    }
+    measure(&header.space, header.capacity, points, room).unwrap()
 }

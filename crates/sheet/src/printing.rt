@@ -1,4 +1,5 @@
 // What is printed of the verdicts and of the figures.
+// In functions and no `Display`: `Figures` is a type of another crate, a row's text has the line's number too, and the text for a bad first line is of no value.
 ghost use Rattle.std.specs.Prelude.{◌≡◌, ◌+◌, ◌^◌, ◌<◌, length, IfOk, string_bytes};
 ghost use Rattle.sheet.specs.Printed.{headless_text, away_line, row_text, rows_text, boxes_text, fits_text, root_text, figures_text, points_of};
 
@@ -19,14 +20,14 @@ pub(crate) fn rows_text(heap: Global, verdicts: &[Verdict]) -> Result<String, Al
     ensures { IfOk result (λ t. string_bytes t ≡ rows_text 2 verdicts.now) }
 {
     let mut out = String::new(heap);
-    for row in 0..verdicts.len() {
-        let text = row_text(heap, row + 2, &verdicts[row])?;
+    for (row, verdict) in verdicts.iter().enumerate() {
+        let text = row_text(heap, row + 2, verdict)?;
         out.push_str(text.as_str())?;
     }
     Ok(out)
 }
 
-// Nothing for a row that is kept.
+// Nothing for a row that is kept. The numbers are those by which the refusals go in what is printed.
 fn row_text(heap: Global, line: usize, verdict: &Verdict) -> Result<String, AllocError>
     ensures { IfOk result (λ t. string_bytes t ≡ row_text line verdict.now) }
 {
@@ -47,14 +48,10 @@ fn away_line(heap: Global, line: usize, number: u8) -> Result<String, AllocError
 pub(crate) fn points_of(heap: Global, verdicts: &[Verdict]) -> Result<Vec<Keys>, AllocError>
     ensures { IfOk result (λ v. v.items ≡ points_of verdicts.now) }
 {
-    let mut points = Vec::new(heap);
-    for row in 0..verdicts.len() {
-        let verdict = &verdicts[row];
-        if let Verdict::Kept(point) = verdict {
-            points.push(*point)?;
-        }
-    }
-    Ok(points)
+    verdicts
+        .iter()
+        .filter_map(|verdict| verdict.point())
+        .collect(heap)
 }
 
 // The figures of so many readings.

@@ -19,6 +19,7 @@ pub(crate) fn read_rows(
 {
     let mut verdicts = Vec::new(heap);
     let mut start = from;
+    // By index: a part that `split` gives may be of nothing behind a last line feed, and one of `split_inclusive` keeps its line feed, to be taken off by a test of its own.
     while start < text.len() {
         let end = until(text, start, b'\n');
         verdicts.push(read_row(space, &text[start..end]))?;
@@ -41,11 +42,9 @@ fn read_row(space: &Space, row: &[u8]) -> Verdict
 fn read_point(space: &Space, row: &[u8]) -> Option<Keys>
     ensures { PointRead space.now row.now result }
 {
-    let Some(numbers) = numbers(row) else {
-        return None;
-    };
+    let numbers = numbers(row)?;
     if numbers.count > 4 {
         return None;
     }
-    space.point(&numbers.first[0..numbers.count])
+    space.point(&numbers.first[..numbers.count])
 }

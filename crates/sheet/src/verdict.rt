@@ -1,4 +1,7 @@
 // What becomes of a row.
+ghost use Rattle.std.specs.Prelude.{◌≡◌};
+ghost use Rattle.sheet.specs.Verdicts.{point_of};
+
 use boxes::Keys;
 
 #[derive(Clone, Copy)]
@@ -9,4 +12,16 @@ pub enum Verdict {
     NoPoint,
     // an earlier row writes the same point
     Repeated,
+}
+
+impl Verdict {
+    // The point that is kept.
+    pub(crate) fn point(&self) -> Option<Keys>
+        ensures { result ≡ point_of self.now }
+    {
+        match self {
+            Verdict::Kept(point) => Some(*point),
+            Verdict::NoPoint | Verdict::Repeated => None,
+        }
+    }
 }

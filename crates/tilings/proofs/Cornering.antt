@@ -1,7 +1,7 @@
 -- One key of a corner.
-use Rattle.std.proofs.Common.{◌≡◌, ℕ, suc, ◌+◌, ◌-◌, ◌*◌, ◌/◌, ◌%◌, ◌<◌, ◌≤◌, List, [], ◌∷◌, ◌++◌, length, get_or, take, drop, set, sym, ap, ◌∙◌, ap₂, inl, inr, append_assoc, append-nil, mul-le-mul_right, mod-lt, arith, length-drop}
+use Rattle.std.proofs.Common.{◌≡◌, ℕ, suc, ◌+◌, ◌-◌, ◌*◌, ◌/◌, ◌%◌, ◌<◌, ◌≤◌, List, [], ◌∷◌, ◌++◌, length, get_or, take, drop, set, sym, ap, ◌∙◌, ap₂, inl, inr, append_assoc, mul-le-mul_right, mod-lt, arith, length-drop}
 use native.Mathlib.Nat.{mul-div_right}
-use Rattle.std.proofs.lemmas.List.{drop_more, drop_all, drop-drop, length-set, length-take-le, get_or-take, take_more_set}
+use Rattle.std.proofs.lemmas.List.{drop_more, drop-drop, length-set, length-take-le, get_or-take, take_more_set}
 use Rattle.std.proofs.lemmas.Bool.{cases_lt}
 use Rattle.images.specs.Cells.{corner, start}
 use Rattle.images.specs.Directory.{intervals}
@@ -98,10 +98,3 @@ module _ (low counts ends point : List ℕ) (number i from left rest : ℕ) (ins
   turned v e =
       let at : get_or low i 0 ≡ get_or lows i 0 = sym (get_or-take (length counts) low i 0 inside) in
       (key_done v (e ∙ ap (λ n. start n (take (from + c - from) part) (rest / (left / (c + 1)))) at), left_next, rest_below, room_left, length-set point i v ∙ inv.4)
-
-pub turned_out : (low counts ends point : List ℕ) (number i from left rest : ℕ) → length counts ≤ i → i ≤ length counts → Turning low counts ends point number i from left rest
-    → take (length counts) point ≡ corner (take (length counts) low) (parted counts ends) number
-turned_out low counts ends point number i from left rest l m inv =
-    let e : length counts ≡ i = omega arith in
-    ap (λ n. take n point) e ∙ sym (append-nil (take i point))
-    ∙ ap (λ (us : List ℕ). take i point ++ corner (drop i (take (length counts) low)) (parted us (drop from ends)) rest) (sym (drop_all i counts l)) ∙ inv.0

@@ -3,13 +3,13 @@ use Rattle.std.proofs.Common.{◌≡◌, ℕ, zero, suc, ◌<◌, ◌≤◌, Boo
 use Rattle.std.proofs.lemmas.List.{length-append}
 use Rattle.std.proofs.lemmas.Bool.{cases_lt}
 use Rattle.boxes.specs.Cuts.{Path, In, half}
-use Rattle.boxes.specs.Leaves.{Distinct}
 use Rattle.boxes.specs.Points.{Names, Point, path, lows}
 use Rattle.boxes.specs.Rising.{insert_all}
 use Rattle.boxes.specs.Space.{Lies, box_at}
 use Rattle.boxes.proofs.Directories.{around_long}
 use Rattle.boxes.proofs.Distinct.{pigeon}
 use Rattle.boxes.proofs.Gathered.{in_insert_all, insert_all_in}
+use Rattle.boxes.proofs.Insertion.{rising_distinct}
 use Rattle.boxes.proofs.Ladder.{around_at}
 use Rattle.boxes.proofs.Leaves.{around_half}
 use Rattle.boxes.proofs.Levels.{around_front_take}
@@ -18,15 +18,9 @@ use Rattle.boxes.proofs.Refine.{around_trans, around_next}
 use Rattle.boxes.proofs.Spans.{around_lies, lies_around}
 use Rattle.images.specs.Directory.{Tile, Image, Rising, tile_at, inner}
 use Rattle.images.proofs.Boxing.{deeper}
-use Rattle.images.proofs.Finds.{rising_tail}
-use Rattle.images.proofs.Limits.{up_distinct}
 use Rattle.images.proofs.Pieces.{length_box_at}
 use Rattle.images.proofs.Unique.{end_listed}
 use Rattle.tilings.specs.Ends.{ShownIn, LowerEnd}
-
-rising_distinct : (us : List ℕ) → Rising us → Distinct us
-rising_distinct [] up = tt
-rising_distinct (x ∷ us) up = up_distinct x us (rising_tail x us up)
 
 scale_most : (es : List (List ℕ)) (i : ℕ) → length (get_or es i []) ≤ inner es
 scale_most [] i = omega arith

@@ -3,15 +3,21 @@ use Rattle.std.proofs.Common.{◌≡◌, ℕ, zero, suc, ◌+◌, ◌<◌, ◌�
 use borrow.Rule.Slice.PartMut.{put_mid, post_of}
 use Rattle.std.proofs.lemmas.List.{length-take, length-take-le, length-set, length-append, take_more_set, take-take, take-append-le, drop_at, drop-drop, drop-take}
 use Rattle.std.proofs.lemmas.Slice.{take-put_mid_below}
+use Rattle.boxes.specs.Spaces.{widths_of, order_of}
+use Rattle.boxes.proofs.Lows.{length_lows}
 use Rattle.boxes.specs.declared.grid_box.GridBox.{GridBox}
 use Rattle.images.specs.Directory.{Rising, inner, intervals}
 use Rattle.images.specs.Parts.{parted, total, AllRising}
 use Rattle.images.specs.Tilings.{listed, over}
 use Rattle.images.proofs.Scales.{length_listed, get_or_listed, over_up, up_rising}
 use Rattle.tilings.specs.declared.tile.Tile.{Tile}
-use Rattle.tilings.specs.Filling.{product}
+use Rattle.images.specs.Parts.{product}
 use Rattle.tilings.specs.Tiles.{lows_in, scales_in_numbers}
-use Rattle.tilings.proofs.Counts.{inner_parted, intervals_parted}
+use Rattle.images.proofs.Counts.{inner_parted, intervals_parted}
+
+-- a box has a lower end in each key
+pub low_wide : (g : GridBox) → length (take g.space.now.keys g.low) ≡ g.space.now.keys
+low_wide g = let s = g.space.now in sym (ap length g.placed) ∙ length_lows (widths_of s) (order_of s) _ ∙ s.wide
 
 -- the scale of key i
 abbrev pub scale_at : GridBox → List Tile → ℕ → List ℕ

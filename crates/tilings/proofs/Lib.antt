@@ -1,11 +1,8 @@
-pub mod Insertions
 pub mod Putting
-pub mod Counts
 pub mod Cornering
 pub mod Lowering
 pub mod Laying
 pub mod Painting
 pub mod Linking
 pub mod Halving
-pub mod Joins
 pub mod Shows

@@ -1,5 +1,5 @@
 -- The scales in numbers are those of the pieces, the corners of their cells are points, and the image is the one built from them.
-use Rattle.std.proofs.Common.{◌≡◌, ℕ, zero, suc, ◌<◌, ◌≤◌, List, [], ◌∷◌, length, get_or, take, sym, refl, ap, ◌∙◌, subst, ap₂, inl, inr, arith}
+use Rattle.std.proofs.Common.{◌≡◌, ℕ, zero, suc, ◌<◌, ◌≤◌, List, [], ◌∷◌, length, get_or, take, Some, None, Option, sym, refl, ap, ◌∙◌, subst, ap₂, inl, inr, arith}
 use Rattle.std.proofs.lemmas.List.{get_or-take}
 use Rattle.boxes.specs.Cuts.{Path, In}
 use Rattle.boxes.specs.GridBoxes.{box_of}
@@ -13,16 +13,20 @@ use Rattle.boxes.proofs.OfBoxes.{names, low_key, box_long}
 use Rattle.images.specs.declared.held_image.HeldImage.{HeldImage}
 use Rattle.images.specs.declared.held_image.Named.{Named}
 use Rattle.images.specs.Cells.{corner, digit, start}
-use Rattle.images.specs.Directory.{Image, Lawful, intervals}
+use Rattle.images.specs.declared.image_size.ImageSize.{ImageSize}
+use Rattle.images.specs.Directory.{Image, Lawful, inner, intervals}
+use Rattle.images.specs.Parts.{parted, total}
+use Rattle.images.specs.Sizes.{SizeOf}
 use Rattle.images.specs.Memory.{scales_in, tile}
 use Rattle.images.specs.Tilings.{Piece, Tiling, Depicts, listed, over, lower_ends, scales_of, built, found}
+use Rattle.images.proofs.Counts.{inner_parted, intervals_parted}
 use Rattle.images.proofs.Depicts.{depicted_stands}
 use Rattle.images.proofs.Laws.{built_stands}
 use Rattle.images.proofs.Places.{length_corner, corner_at, digit_le}
 use Rattle.images.proofs.Scales.{length_listed, get_or_listed, start_in, over_in}
 use Rattle.tilings.specs.declared.tile.Tile.{Tile}
 use Rattle.tilings.specs.Filling.{Fits}
-use Rattle.tilings.specs.Images.{scales, Paged}
+use Rattle.tilings.specs.Images.{scales, Sized, Paged}
 use Rattle.tilings.specs.Naming.{cell, corner_from, Cornered}
 use Rattle.tilings.specs.Tiles.{AllOn, tile_box, piece_of, pieces_of, lows_in, scales_in_numbers}
 
@@ -46,6 +50,14 @@ scales_same g ts on =
     listed_same s.keys (λ i. over (get_or g.low i 0) (lows_in i ts)) (λ i. over (get_or (lows ws ord (box_of g)) i 0) (lower_ends ws ord i (pieces_of s ts)))
     (λ i l. ap₂ over (sym (low_key g i l)) (lows_same s ts on i l))
     ∙ ap (λ n. listed n (λ i. over (get_or (lows ws ord (box_of g)) i 0) (lower_ends ws ord i (pieces_of s ts)))) (sym s.wide)
+
+-- the size of the tiles' image, by how many ends each key has
+pub sized_of : (g : GridBox) (ts : List Tile) (cs xs : List ℕ) → total cs ≤ length xs → length cs ≤ 4 → total cs ≤ 250 → parted cs xs ≡ scales_in_numbers g ts → (o : Option ImageSize) → SizeOf cs o → Sized g ts o
+sized_of g ts cs xs room few most laid None h = λ on. absurd (h (few, most))
+sized_of g ts cs xs room few most laid (Some s) h = λ on.
+    let e = laid ∙ scales_same g ts on in
+    let a = sym (inner_parted cs xs room) ∙ ap inner e in
+    (h.2 ∙ a, h.3 ∙ sym (intervals_parted cs xs room) ∙ ap intervals e, omega (arith, a, most))
 
 -- the corner of a cell is a point of the space, wherever the pieces lie
 pub corner_on : (ws ord : List ℕ) → Names ws ord → (b : Path) (ts : List Piece) (n : ℕ) → n < intervals (scales_of ws ord b ts) → Point ws (corner (lows ws ord b) (scales_of ws ord b ts) n)

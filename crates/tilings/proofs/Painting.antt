@@ -1,6 +1,6 @@
 -- Cells that are painted one after another.
-use Rattle.std.proofs.Common.{◌≡◌, ℕ, ◌+◌, ◌<◌, ◌≤◌, true, cond, List, length, get_or, drop, set, sym, ap, ◌∙◌, subst, inl, inr, arith, below_more}
-use Rattle.std.proofs.lemmas.List.{get_or-set_same, get_or-set_other, length-set, drop_more, drop_all}
+use Rattle.std.proofs.Common.{◌≡◌, ℕ, ◌+◌, ◌<◌, ◌≤◌, true, cond, List, [], ◌∷◌, ◌++◌, length, get_or, take, drop, set, sym, refl, ap, ◌∙◌, subst, inl, inr, arith, below_more}
+use Rattle.std.proofs.lemmas.List.{get_or-set_same, get_or-set_other, get_or-take, get_or_push, length-set, length-append, take_all, take_at, take-take, drop_more, drop_all}
 use Rattle.std.proofs.lemmas.Bool.{cases_Bool, cond-true, cond-false, both_ways}
 use Rattle.boxes.specs.Cuts.{Path, around}
 use Rattle.boxes.specs.GridBoxes.{box_of, IsBox}
@@ -98,3 +98,21 @@ named_more d g ts old i t mid new l inv painted corners on none m k =
     painted corners (on x (get_or_in ts i t l)) m k
     ∙ ap (λ (z : Entry). cond (around (tile_box s x) w) (tile_of (piece_of s x)) z) (inv corners on none m k)
     ∙ sym (ap (λ (us : List Tile). found w (pieces_of s us)) (drop_more ts i t l))
+
+-- at first all tiles are left
+pub all_left : (all ts : List Tile) → all ≡ ts → (length all ≤ length ts) × (all ≡ take (length all) ts) × (length ts ≤ length all)
+all_left all ts e = let l = ap length e in (omega arith, e ∙ sym (take_all (length all) ts (omega arith)), omega arith)
+
+-- the last of the tiles that are left is taken
+pub last_left : (all rest ts : List Tile) (t : Tile) → length all ≤ length ts → all ≡ take (length all) ts → all ≡ rest ++ (t ∷ [])
+    → (length rest ≤ length ts) × (rest ≡ take (length rest) ts) × (length rest < length ts) × (t ≡ get_or ts (length rest) t) × (length all ≡ length rest + 1)
+last_left all rest ts t l front e =
+    let n = length rest in
+    let long : length all ≡ n + 1 = ap length e ∙ length-append rest (t ∷ []) in
+    let both : take (n + 1) ts ≡ rest ++ (t ∷ []) = ap (λ k. take k ts) (sym long) ∙ sym front ∙ e in (
+      omega arith,
+      sym (take_at rest (t ∷ []) n refl) ∙ ap (take n) (sym both) ∙ take-take n (n + 1) ts (omega arith),
+      omega arith,
+      sym (get_or_push rest t t n refl) ∙ ap (λ (us : List Tile). get_or us n t) (sym both) ∙ get_or-take (n + 1) ts n t (omega arith),
+      long,
+    )

@@ -15,10 +15,11 @@ use Rattle.images.specs.declared.held_image.Named.{Named}
 use Rattle.images.specs.Directory.{Tile, Image, tile_at}
 use Rattle.images.specs.Memory.{tile, image_of}
 use Rattle.images.proofs.Memory.{keys_in}
-use Rattle.tilings.specs.declared.rising_ends.RisingEnds.{RisingEnds}
-use Rattle.tilings.specs.Ends.{ends_of, EndsJoined, ShownIn, EndsIn}
+use Rattle.boxes.specs.declared.rising_ends.RisingEnds.{RisingEnds}
+use Rattle.boxes.specs.RisingEnds.{ends_of, EndsJoined}
+use Rattle.tilings.specs.Ends.{ShownIn, EndsIn}
 use Rattle.tilings.proofs.Halving.{Exact, one_end, few_ends, below_last, half_shown, ends_joined}
-use Rattle.tilings.proofs.Joins.{rising_insert_all}
+use Rattle.boxes.proofs.Insertion.{rising_insert_all}
 
 -- a test that failed
 pub not_whole : (r : Bool) (a b : ℕ) → (a ≤ b → r ≡ true) → r ≡ false → b < a

@@ -1,30 +1,16 @@
 -- The lower ends of an image's boxes inside a box c. In all of it ws are the widths of the keys, and ord is the halving order.
-use Rattle.std.specs.Prelude.{◌≡◌, ℕ, ◌<◌, ◌≤◌, true, false, List, length, take, Some, None, Option, slice_index}
-use Rattle.boxes.specs.Cuts.{Path, In, around, half}
-use Rattle.boxes.specs.GridBoxes.{box_of, IsBox}
+use Rattle.std.specs.Prelude.{◌≡◌, ℕ, ◌<◌, ◌≤◌, true, List, length, Some, None, Option, slice_index}
+use Rattle.boxes.specs.Cuts.{Path, In, around}
+use Rattle.boxes.specs.GridBoxes.{box_of}
 use Rattle.boxes.specs.Points.{Point, lows}
-use Rattle.boxes.specs.Rising.{insert_all}
 use Rattle.boxes.specs.Space.{Lies, box_at}
 use Rattle.boxes.specs.Spaces.{widths_of, order_of}
 use Rattle.boxes.specs.declared.grid_box.GridBox.{GridBox}
 use Rattle.images.specs.declared.held_image.HeldImage.{HeldImage}
 use Rattle.images.specs.Directory.{Image, Lawful, tile_at}
 use Rattle.images.specs.Memory.{image_of}
-use Rattle.tilings.specs.declared.rising_ends.RisingEnds.{RisingEnds}
-
--- the numbers
-abbrev pub ends_of : RisingEnds → List ℕ
-ends_of e = take e.count e.ends
-
--- the numbers of both; there is no answer exactly where they are more than 61
-abbrev pub EndsJoined : List ℕ → List ℕ → Option RisingEnds → Type 0
-EndsJoined own more None = 61 < length (insert_all more own)
-EndsJoined own more (Some e) = ends_of e ≡ insert_all more own
-
--- the lower and the upper half of g; there are none exactly where g is one point
-abbrev pub BothHalves : GridBox → Option (GridBox × GridBox) → Type 0
-BothHalves g None = g.level ≡ g.space.now.depth
-BothHalves g (Some (lower, upper)) = (g.level < g.space.now.depth) × IsBox g.space.now (half (box_of g) false) lower × IsBox g.space.now (half (box_of g) true) upper
+use Rattle.boxes.specs.declared.rising_ends.RisingEnds.{RisingEnds}
+use Rattle.boxes.specs.RisingEnds.{ends_of}
 
 -- The image shows c.
 pub record ShownIn (ws ord : List ℕ) (img : Image) (b : Path) (n : ℕ) (c : Path) : Type 0 where

@@ -1,5 +1,5 @@
 -- What the steps of building an image leave in its arrays of ends.
-use Rattle.std.specs.Prelude.{◌≡◌, ℕ, suc, ◌*◌, ◌<◌, ◌≤◌, List, [], ◌∷◌, length, take, Some, None, Option, slice_index_or}
+use Rattle.std.specs.Prelude.{◌≡◌, ℕ, ◌<◌, ◌≤◌, List, length, take, Some, None, Option, slice_index_or}
 use Rattle.boxes.specs.declared.grid_box.GridBox.{GridBox}
 use Rattle.images.specs.declared.held_image.HeldImage.{HeldImage}
 use Rattle.images.specs.Directory.{inner, intervals}
@@ -12,11 +12,6 @@ abbrev pub InnerEnd : ℕ → ℕ → Option ℕ → Type 0
 InnerEnd own low None = low ≤ own
 InnerEnd own low (Some x) = (own < low) × (x ≡ low)
 
--- the array begins with the numbers, of which there are so many; there is no answer exactly where they are more than it has places
-abbrev pub Holds : List ℕ → List ℕ → Option ℕ → Type 0
-Holds es xs None = length xs < length es
-Holds es xs (Some n) = (n ≡ length es) × (take n xs ≡ es)
-
 -- the array begins with the scales of k keys side by side, and the counts say how long each is; there are none exactly where the scales have more numbers than it has places
 abbrev pub Laid : ℕ → List (List ℕ) → List ℕ → Option (List ℕ) → Type 0
 Laid k es xs None = length xs < inner es
@@ -26,11 +21,6 @@ Laid k es xs (Some cs) = (length (take k cs) ≡ k) × (total (take k cs) ≤ le
 abbrev pub ScalesMade : ℕ → List (List ℕ) → Option Scales → Type 0
 ScalesMade k es None = 250 < inner es
 ScalesMade k es (Some s) = (length s.ends ≡ 250) × (length (take k s.counts) ≡ k) × (total (take k s.counts) ≤ 250) × (parted (take k s.counts) s.ends ≡ es)
-
--- how many cells scales of these lengths make
-abbrev pub product : List ℕ → ℕ
-product [] = 1
-product (c ∷ cs) = suc c * product cs
 
 -- an image with room for so many ends and cells may be, and has room for these scales
 abbrev pub Fits : ℕ → ℕ → List (List ℕ) → Type 0

@@ -9,7 +9,7 @@ use Rattle.images.specs.Checking.{LawfulIn}
 use Rattle.images.specs.Directory.{inner, intervals}
 use Rattle.images.specs.Memory.{image_of}
 use Rattle.images.specs.Tilings.{Tiling, Depicts, scales_of, built}
-use Rattle.tilings.specs.declared.image_size.ImageSize.{ImageSize}
+use Rattle.images.specs.declared.image_size.ImageSize.{ImageSize}
 use Rattle.tilings.specs.declared.tile.Tile.{Tile}
 use Rattle.tilings.specs.Filling.{Fits}
 use Rattle.tilings.specs.Tiles.{AllOn, pieces_of}

@@ -1,5 +1,5 @@
 -- What the steps of building an image leave in its array of cells. In all of it d has the scales, and g is the box.
-use Rattle.std.specs.Prelude.{◌≡◌, ℕ, ◌<◌, cond, List, take, slice_index_or}
+use Rattle.std.specs.Prelude.{◌≡◌, ℕ, ◌<◌, if◌then◌else◌, List, take, slice_index_or}
 use Rattle.boxes.specs.Cuts.{around}
 use Rattle.boxes.specs.GridBoxes.{box_of}
 use Rattle.boxes.specs.Points.{Point, path}
@@ -40,7 +40,7 @@ Cornered d g = (d.keys ≡ g.space.now.keys) × ((m : ℕ) → m < intervals (sc
 abbrev pub TilePainted : {E C : ℕ} → HeldImage E C → GridBox → Tile → List Named → List Named → Type 0
 TilePainted d g t old new = Cornered d g → OnGrid g.space.now t → (m : ℕ) → m < intervals (scales_in d)
     → tile (cell new m)
-    ≡ cond (around (tile_box g.space.now t) (path (widths_of g.space.now) (order_of g.space.now) (corner_from d g.low m))) (tile_of (piece_of g.space.now t)) (tile (cell old m))
+    ≡ (if around (tile_box g.space.now t) (path (widths_of g.space.now) (order_of g.space.now) (corner_from d g.low m)) then tile_of (piece_of g.space.now t) else tile (cell old m))
 
 -- each cell that named nothing names the first of the tiles around its corner
 abbrev pub CellsNamed : {E C : ℕ} → HeldImage E C → GridBox → List Tile → List Named → List Named → Type 0

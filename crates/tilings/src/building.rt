@@ -1,5 +1,4 @@
 // The image of a tiling.
-ghost use Rattle.std.specs.Prelude.{◌≤◌};
 ghost use Rattle.tilings.specs.Images.{Built, Shown};
 
 use crate::naming::name_cells;
@@ -16,25 +15,7 @@ pub fn build<const ENDS: usize, const CELLS: usize>(
     ensures built { Built inner.now tiles.now result }
     ensures shown { Shown inner.now tiles.now result }
 {
-    if ENDS > 250 || CELLS > 1024 {
-        return None;
-    }
-    image_of(inner, tiles)
-}
-
-// The same where an image may have room for so many ends and cells.
-fn image_of<const ENDS: usize, const CELLS: usize>(
-    inner: &GridBox,
-    tiles: &[Tile],
-) -> Option<HeldImage<ENDS, CELLS>>
-    requires bound { ENDS ≤ 250 }
-    requires bound_2 { CELLS ≤ 1024 }
-    ensures built { Built inner.now tiles.now result }
-    ensures shown { Shown inner.now tiles.now result }
-{
-    let Some(image) = scaled_image::<ENDS, CELLS>(inner, tiles) else {
-        return None;
-    };
+    let image: HeldImage<ENDS, CELLS> = scaled_image(inner, tiles)?;
     let keys = image.keys;
     let counts = image.counts;
     let ends = image.ends;

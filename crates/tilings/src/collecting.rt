@@ -1,5 +1,5 @@
 // The scales of a tiling: in each key the different lower ends above the box's own, rising.
-ghost use Rattle.std.specs.Prelude.{◌≡◌, ◌≤◌, length, take};
+ghost use Rattle.std.specs.Prelude.{◌≡◌, length};
 ghost use Rattle.tilings.specs.Filling.{Laid, ScalesMade};
 ghost use Rattle.tilings.specs.Tiles.{scales_in_numbers};
 
@@ -14,44 +14,26 @@ fn collect_scales(inner: &GridBox, tiles: &[Tile], ends: &mut [u32]) -> Option<[
 {
     let mut counts = [0; 4];
     let mut from = 0;
-    for key in 0..inner.space.keys {
-        let Some(count) = collect_key(tiles, key, inner.low[key], &mut ends[from..]) else {
-            return None;
-        };
+    for (key, own) in inner.low[..inner.space.keys].iter().enumerate() {
+        let count = collect_key(tiles, key, *own, &mut ends[from..])?;
         counts[key] = count;
         from += count;
     }
     Some(counts)
 }
 
-// The scales of the tiles; nothing where there are more than 250 ends.
+// The scales of the tiles; nothing where there are more than 250 ends. A box and its tiles are two parameters throughout, as `build` and `scale_counts` are handed them.
 pub(crate) fn scales_of(inner: &GridBox, tiles: &[Tile]) -> Option<Scales>
     ensures { ScalesMade inner.now.space.now.keys (scales_in_numbers inner.now tiles.now) result }
 {
     let mut ends = zeros();
-    let Some(counts) = collect_scales(inner, tiles, &mut ends) else {
-        return None;
-    };
+    let counts = collect_scales(inner, tiles, &mut ends)?;
     Some(Scales { counts, ends })
 }
 
-// Nothing but zeros.
+// Nothing but zeros. By itself, so that no proof spells out 250 of them.
 fn zeros<const N: usize>() -> [u32; N]
     ensures { length result ≡ N }
 {
     [0; N]
-}
-
-// An array that begins with the first numbers of a slice.
-pub(crate) fn front<const N: usize>(numbers: &[u32], count: usize) -> [u32; N]
-    requires count_bound { count ≤ N }
-    requires count_in_bounds { count ≤ length numbers.now }
-    ensures long { length result ≡ N }
-    ensures same { take count result ≡ take count numbers.now }
-{
-    let mut first = [0; N];
-    for i in 0..count {
-        first[i] = numbers[i];
-    }
-    first
 }

@@ -4,22 +4,17 @@
 mod building;
 mod collecting;
 mod corners;
-mod counting;
-mod image_size;
-mod joining;
 mod naming;
 mod ordering;
-mod rising_ends;
 mod scales;
 mod showing;
-mod sizes;
 mod sizing;
 mod tile;
 mod tiles;
 
+pub use boxes::RisingEnds;
 pub use building::build;
-pub use image_size::ImageSize;
-pub use rising_ends::RisingEnds;
+pub use images::ImageSize;
 pub use showing::lower_ends;
 pub use sizing::scale_counts;
 pub use tile::Tile;

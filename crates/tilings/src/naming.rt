@@ -3,7 +3,6 @@ ghost use Rattle.std.specs.Prelude.{◌≡◌, length};
 ghost use Rattle.tilings.specs.Naming.{Painted, TilePainted, CellsNamed};
 
 use crate::corners::corner_of;
-use crate::counting::cells_of;
 use crate::tile::Tile;
 use boxes::GridBox;
 use images::{HeldImage, Named};
@@ -16,16 +15,14 @@ fn paint<const ENDS: usize, const CELLS: usize>(
     named: Named,
     cells: &mut [Named; CELLS],
 )
-    requires { length cells.old ≡ CELLS }
     ensures long { length cells.new ≡ CELLS }
     ensures named { Painted image.now low.now outer.now named cells.old cells.new }
 {
-    let counts = &image.counts[..image.keys];
-    let count = cells_of(counts);
-    for number in 0..count {
-        let corner = corner_of(low, counts, &image.ends, count, number);
+    let count = image.size().cells;
+    for (number, cell) in cells[..count].iter_mut().enumerate() {
+        let corner = corner_of(low, &image.scales(), count, number);
         if outer.contains(&corner[..image.keys]) {
-            cells[number] = named;
+            *cell = named;
         }
     }
 }
@@ -37,14 +34,12 @@ fn paint_tile<const ENDS: usize, const CELLS: usize>(
     tile: Tile,
     cells: &mut [Named; CELLS],
 )
-    requires { length cells.old ≡ CELLS }
     ensures long { length cells.new ≡ CELLS }
     ensures named { TilePainted image.now inner.now tile cells.old cells.new }
 {
-    let Some(outer) = GridBox::around(inner.space, tile.level, &tile.low[..inner.space.keys]) else {
-        return;
-    };
-    paint(image, &inner.low, &outer, tile.named(), cells);
+    if let Some(outer) = GridBox::around(inner.space, tile.level, &tile.low[..inner.space.keys]) {
+        paint(image, &inner.low, &outer, tile.named(), cells);
+    }
 }
 
 // Gives each cell its tile: from the last tile to the first, so that the first stays.
@@ -54,11 +49,10 @@ pub(crate) fn name_cells<const ENDS: usize, const CELLS: usize>(
     tiles: &[Tile],
     cells: &mut [Named; CELLS],
 )
-    requires { length cells.old ≡ CELLS }
     ensures long { length cells.new ≡ CELLS }
     ensures named { CellsNamed image.now inner.now tiles.now cells.old cells.new }
 {
-    for i in (0..tiles.len()).rev() {
-        paint_tile(image, inner, tiles[i], cells);
+    for tile in tiles.iter().rev() {
+        paint_tile(image, inner, *tile, cells);
     }
 }

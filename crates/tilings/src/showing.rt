@@ -1,9 +1,8 @@
 // The lower ends that an image shows in a part of its box.
-ghost use Rattle.std.specs.Prelude.{◌<◌, ◌≤◌, Decides};
-ghost use Rattle.tilings.specs.Ends.{EndsShown, BothHalves};
+ghost use Rattle.std.specs.Prelude.{◌<◌, ◌≤◌, ◌↔◌, IsTrue};
+ghost use Rattle.tilings.specs.Ends.{EndsShown};
 
-use crate::rising_ends::RisingEnds;
-use boxes::GridBox;
+use boxes::{GridBox, RisingEnds};
 use images::{DirectoryImage, Named};
 
 // The lower ends in a key of the image's boxes inside a box. Nothing for a key that does not exist; else an answer, where the image is lawful.
@@ -21,40 +20,19 @@ fn ends_inside(image: &DirectoryImage, inner: &GridBox, key: usize) -> Option<Ri
     requires { key < inner.now.space.now.keys }
     ensures { EndsShown image.now inner.now key result }
 {
-    let Some(named) = image.named_at(&inner.low[..inner.space.keys]) else {
-        return None;
-    };
+    let named = image.named_at(&inner.low[..inner.space.keys])?;
     if is_whole(inner, named) {
         return Some(RisingEnds::one(inner.low[key]));
     }
-    let Some((lower, upper)) = halves(inner) else {
-        return None;
-    };
-    let Some(below) = ends_inside(image, &lower, key) else {
-        return None;
-    };
-    let Some(above) = ends_inside(image, &upper, key) else {
-        return None;
-    };
+    let (lower, upper) = inner.halves()?;
+    let below = ends_inside(image, &lower, key)?;
+    let above = ends_inside(image, &upper, key)?;
     below.joined(&above)
-}
-
-// Both halves of a box; a box that is one point has none.
-fn halves<'a>(inner: &GridBox<'a>) -> Option<(GridBox<'a>, GridBox<'a>)>
-    ensures { BothHalves inner.now result }
-{
-    let Some(lower) = inner.half(false) else {
-        return None;
-    };
-    let Some(upper) = inner.half(true) else {
-        return None;
-    };
-    Some((lower, upper))
 }
 
 // Is a box as large as this one named?
 fn is_whole(inner: &GridBox, named: Named) -> bool
-    ensures { Decides result (named.level ≤ inner.now.level) }
+    ensures { IsTrue result ↔ (named.level ≤ inner.now.level) }
 {
     named.level as usize <= inner.level
 }

@@ -1,4 +1,4 @@
-// A piece of a tiling: a box of some space, by its level and its lower end in each key, and a page. What stands in `low` behind the keys of the space is no matter.
+// A piece of a tiling: a box of some space, by its level and its lower end in each key, and a page. What stands in `low` behind the keys of the space is no matter; it is a fixed array, since nothing here allocates.
 #[derive(Clone, Copy)]
 pub struct Tile {
     pub level: usize,

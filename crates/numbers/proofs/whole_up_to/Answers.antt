@@ -13,11 +13,11 @@ returns-then-text-eq0 c = λ n w.
       | then-text-eq0-via-else-text-eq0+else-text-gt10+then-has_leading_zero v ↦ let q = v.has_leading_zero.ensures.0 v.if-has_leading_zero.true in omega (arith, t.plain q.1, q.0)
     ]
 
-pub returns-in_default : goal.returns-in_default
-returns-in_default c = λ n w. true≢false (sym (written c.args.text.now n (omega (arith, w.0, c.ranges.greatest), w.1)).digits ∙ c.in_default.ensures)
+pub returns-in_err-number : goal.returns-in_err-number
+returns-in_err-number c = rw c.from_residual.ensures (λ n w. true≢false (sym (written c.args.text.now n (omega (arith, w.0, c.ranges.greatest), w.1)).digits ∙ c.in_err-number.ensures))
 
 pub returns-then-number-greatest : goal.returns-then-number-greatest
-returns-then-number-greatest c = λ n w. omega (arith, (written c.args.text.now n (omega (arith, w.0, c.ranges.greatest), w.1)).value, c.in-Some.ensures.1, c.if-number-greatest.true, w.0)
+returns-then-number-greatest c = λ n w. omega (arith, (written c.args.text.now n (omega (arith, w.0, c.ranges.greatest), w.1)).value, c.in_ok-number.ensures.1, c.if-number-greatest.true, w.0)
 
 pub returns : goal.returns
 returns c =
@@ -26,4 +26,4 @@ returns c =
     let plain : get_or bs 0 0 ≡ 48 → length bs ≡ 1 = λ e.
     let one : 1 < length bs → ⊥ = λ l. true≢false (sym (c.has_leading_zero.ensures.1 (l, e)) ∙ c.if-has_leading_zero.false) in
     omega arith in
-    writes bs c.in-Some.number some plain c.in-Some.ensures.0 c.args.greatest c.in-Some.ensures.1 c.if-number-greatest.false (omega (arith, c.ranges.greatest))
+    writes bs c.in_ok-number.number some plain c.in_ok-number.ensures.0 c.args.greatest c.in_ok-number.ensures.1 c.if-number-greatest.false (omega (arith, c.ranges.greatest))

@@ -1,4 +1,4 @@
-use Rattle.std.proofs.Common.{◌≡◌, ℕ, ◌+◌, ◌-◌, List, [], ◌++◌, map, length, get_or, take, drop, vec_items, vec_len, string_bytes, sym, ap, ◌∙◌, subst, ap₂, inl, inr, arith, rules}
+use Rattle.std.proofs.Common.{◌≡◌, ℕ, ◌+◌, List, [], ◌++◌, map, length, get_or, take, drop, vec_items, vec_len, string_bytes, sym, ap, ◌∙◌, subst, ap₂, inl, inr, arith, rules}
 use Rattle.std.proofs.lemmas.Result.{IfOk-weaker}
 use Rattle.boxes.specs.declared.keys.Keys.{Keys}
 use Rattle.boxes.specs.Figures.{figures, Points}
@@ -17,7 +17,7 @@ use Rattle.sheet.proofs.answer.Goals as goal
 pub returns-in_default : goal.returns-in_default
 returns-in_default c =
     let text = c.args.text.now in
-    let first : get_or (lines text) 0 [] ≡ take (c.until-end.result - 0) text = (head_line text c.until-end.result c.until-end.ensures).0 ∙ ap (λ n. take n text) (omega arith) in
+    let first : get_or (lines text) 0 [] ≡ take c.until-end.result text = (head_line text c.until-end.result c.until-end.ensures).0 in
     let headless : (t : List ℕ) → t ≡ headless_text → Answered text t = λ t e. inl ((λ n ws h. c.in_default.ensures n ws (subst (λ us. Heads us n ws) first h)), e) in
     record {
       answered = IfOk-weaker c.headless_text.result (λ t. string_bytes t ≡ headless_text) (λ t. Answered text (string_bytes t)) (λ t e. headless (string_bytes t) e) c.headless_text.ensures;
@@ -43,7 +43,7 @@ returns c =
     let vs = vec_items c.in_ok-verdicts.verdicts in
     let ps = points_of vs in
     let line = head_line text end c.until-end.ensures in
-    let first : get_or (lines text) 0 [] ≡ take (end - 0) text = line.0 ∙ ap (λ n. take n text) (omega arith) in
+    let first : get_or (lines text) 0 [] ≡ take end text = line.0 in
     let points : vec_items c.in_ok-points.points ≡ ps = c.in_ok-points.ensures ∙ ap points_of c.as_slice-2.ensures.value in
     let many : vec_len c.in_ok-points.points ≡ length (vec_items c.in_ok-points.points) = search rules in
     let count : c.len-count.result ≡ length ps = c.len-count.ensures ∙ many ∙ ap length points in

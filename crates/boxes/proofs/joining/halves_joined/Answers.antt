@@ -1,25 +1,23 @@
-use Rattle.std.proofs.Common.{◌≡◌, ◌-◌, length, take, sym, subst, arith, rules}
-use Rattle.boxes.specs.Counts.{Countable}
-use Rattle.boxes.proofs.OfScales.{countable, unjoined, overfull, joined_halves}
+use Rattle.std.proofs.Common.{◌≡◌, length, sym, ap, ◌∙◌, rules}
+use Rattle.std.specs.Option.{option_copied}
+use Rattle.boxes.proofs.OfScales.{countable, unjoined, kept_or_not}
 use Rattle.boxes.proofs.joining.halves_joined.Goals as goal
 
-pub returns-in_default-joined : goal.returns-in_default-joined
-returns-in_default-joined c = unjoined c.args.keys _ _ c.in-Some.own c.in-Some-upper.more c.in-Some.is c.in-Some-upper.is c.in_default-joined.ensures
+pub returns-in_err-scales : goal.returns-in_err-scales
+returns-in_err-scales c =
+    let el = sym c.as_ref.ensures.value ∙ ap option_copied c.in_ok-as_ref.was in
+    let eh = sym c.as_ref-2.ensures.value ∙ ap option_copied c.in_ok-as_ref-2.was in
+    rw c.from_residual-in_err-scales.ensures (unjoined c.args.keys _ _ c.in_ok-as_ref.field-0.now c.in_ok-as_ref-2.field-0.now el eh c.in_err-scales.ensures)
 
-pub keeps_limits-requires : goal.keeps_limits-requires
-keeps_limits-requires c =
-    let k : c.args.keys - 0 ≡ c.args.keys = omega arith in
-    let four : length c.counts-counts.result ≡ 4 = search rules in
-    subst (λ n. Countable (take n c.counts-counts.result)) (sym k) (countable c.in-Some-joined.scales c.args.keys c.counts-counts.result c.requires four c.counts-counts.ensures)
-
-pub returns-then-not-keeps_limits : goal.returns-then-not-keeps_limits
-returns-then-not-keeps_limits c =
-    let four : length c.counts-counts.result ≡ 4 = search rules in
-    overfull c.args.keys _ _ c.in-Some.own c.in-Some-upper.more c.in-Some.is c.in-Some-upper.is c.in-Some-joined.scales c.counts-counts.result four c.requires c.counts-counts.ensures
-    c.in-Some-joined.ensures (c.args.keys - 0) (omega arith) c.if-not-keeps_limits.ensures
+pub of-grid-requires : goal.of-grid-requires
+of-grid-requires c =
+    let four : length c.counts.result ≡ 4 = search rules in
+    countable c.in_ok-scales.scales c.args.keys c.counts.result c.requires four c.counts.ensures
 
 pub returns : goal.returns
 returns c =
-    let four : length c.counts-counts.result ≡ 4 = search rules in
-    joined_halves c.args.keys _ _ c.in-Some.own c.in-Some-upper.more c.in-Some.is c.in-Some-upper.is c.in-Some-joined.scales c.counts-counts.result four c.requires c.counts-counts.ensures
-    c.in-Some-joined.ensures (c.args.keys - 0) (omega arith) c.if-not-keeps_limits.ensures
+    let el = sym c.as_ref.ensures.value ∙ ap option_copied c.in_ok-as_ref.was in
+    let eh = sym c.as_ref-2.ensures.value ∙ ap option_copied c.in_ok-as_ref-2.was in
+    let four : length c.counts.result ≡ 4 = search rules in
+    rw c.then_some.ensures (kept_or_not c.args.keys _ _ c.in_ok-as_ref.field-0.now c.in_ok-as_ref-2.field-0.now el eh c.in_ok-scales.scales c.counts.result four c.requires c.counts.ensures c.in_ok-scales.ensures
+    c.of-grid.result.boundaries c.of-grid.result.cells c.keeps_limits.result c.of-grid.ensures.boundaries c.of-grid.ensures.cells c.keeps_limits.ensures)

@@ -1,33 +1,24 @@
-use Rattle.std.proofs.Common.{sym, refl, ◌∙◌, subst}
-use Rattle.std.proofs.ByRecursion.{All-get_or, All-more}
-use Rattle.std.proofs.lemmas.List.{take_all}
+use Rattle.std.proofs.Common.{ℕ, zero, suc, ◌<◌, ◌↔◌, IsTrue, Bool, true, false, ◌∷◌, List, [], length, MatchBool, refl, arith, rules, tests}
+use Rattle.std.specs.List.{AllByRecursion, AllWithin, HoldsAt}
+use Rattle.std.proofs.ByRecursion.{all_from_every}
 use Rattle.std.proofs.lemmas.Bool.{false≢true}
-use Rattle.boxes.specs.declared.keys.Keys.{Keys}
-use Rattle.boxes.specs.Figures.{Points}
+use Rattle.std.proofs.lemmas.Iterator.{cases_from_all, YieldsList-from_slice}
 use Rattle.boxes.specs.KeyLists.{keys_of}
 use Rattle.boxes.specs.Points.{Point}
 use Rattle.boxes.specs.Spaces.{widths_of}
 use Rattle.boxes.proofs.measuring.are_points.Goals as goal
 
-pub returns-then-not-has_point : goal.returns-then-not-has_point
-returns-then-not-has_point c =
-    let ws = widths_of c.args.space.now in
-    let p = c.point-item.result in (
-      λ e. absurd (false≢true e),
-      λ h.
-          let here = subst (λ (q : Keys). Point ws (keys_of q)) (sym c.point-item.is) (All-get_or (λ q. Point ws (keys_of q)) c.args.points.now c.loop-point.point-index p c.loop-point-test.true h) in
-          absurd (false≢true (sym c.if-not-has_point.true ∙ c.has_point.ensures.1 (subst (Point ws) (sym c.as_slice.ensures) here))),
-    )
+fails_at : {X : Type 0} (P : X → Type 0) (xs : List X) (k : ℕ) → k < length xs → HoldsAt (λ x. P x → ⊥) xs k → AllByRecursion P xs → ⊥
+fails_at P [] k l h a = omega arith
+fails_at P (x ∷ xs) zero l h a = h x a.0
+fails_at P (x ∷ xs) (suc k) l h a = fails_at P xs k (omega arith) h a.1
 
-pub loop-point-preserved : goal.loop-point-preserved
-loop-point-preserved c =
-    let ws = widths_of c.args.space.now in
-    let p = c.point-item.result in
-    let here = subst (Point ws) c.as_slice.ensures (c.has_point.ensures.0 c.if-not-has_point.false) in
-    All-more (λ q. Point ws (keys_of q)) c.args.points.now c.loop-point.point-index p c.loop-point-test.true c.loop-point.invariant (subst (λ (q : Keys). Point ws (keys_of q)) c.point-item.is here)
+all_or_not : {X : Type 0} (P : X → Type 0) (xs : List X) (r : Bool) → MatchBool r (AllWithin P xs 0 (length xs)) ((k : ℕ) × (k < length xs) × HoldsAt (λ x. P x → ⊥) xs k) → IsTrue r ↔ AllByRecursion P xs
+all_or_not P xs true h = (λ _. all_from_every P xs h, λ _. refl)
+all_or_not P xs false h = (λ e. absurd (false≢true e), λ a. absurd (fails_at P xs h.0 h.1 h.2 a))
 
 pub returns : goal.returns
-returns c = (
-  λ _. subst (Points c.args.space.now) (take_all c.loop-point.point-index c.args.points.now c.loop-point-test.false) c.loop-point.invariant,
-  λ _. refl,
-)
+returns c =
+    let ws = widths_of c.args.space.now in
+    all_or_not (λ p. Point ws (keys_of p)) c.args.points.now c.all.result
+    (cases_from_all _ _ c.all.result (λ p. Point ws (keys_of p)) (λ p. Point ws (keys_of p) → ⊥) c.all.ensures.ran (YieldsList-from_slice c.args.points.now cc) (λ x q k. search (rules, tests)) (λ x q k. search (rules, tests)))

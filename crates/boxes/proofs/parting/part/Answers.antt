@@ -1,26 +1,11 @@
-use Rattle.std.proofs.Common.{◌≡◌, ◌+◌, ◌<◌, false, length, get_or, sym, ap, ◌∙◌, subst₂, arith}
-use Rattle.std.proofs.lemmas.List.Sorted.{IsPermutation-refl, IsPermutation-trans}
-use Rattle.std.proofs.ByRecursion.{all_shuffled}
-use Rattle.boxes.specs.declared.keys.Keys.{Keys}
+use Rattle.std.proofs.Common.{◌+◌, ◌<◌, false, length, get_or, sym, ap, ◌∙◌, subst₂, arith}
+use Rattle.std.proofs.lemmas.List.Sorted.{IsPermutation-trans}
+use Rattle.boxes.specs.Parts.{side}
 use Rattle.boxes.specs.Points.{path}
 use Rattle.boxes.specs.Spaces.{widths_of, order_of}
-use Rattle.boxes.proofs.Halvings.{fitting_at}
 use Rattle.boxes.proofs.Sides.{Standing, upper_more, lower_swapped, upper_swapped}
 use Rattle.boxes.proofs.parting.part.Goals as goal
 use Rattle.boxes.proofs.parting.part.Goals.{then-not-is_in_upper, else-not-is_in_upper}
-
-pub loop-i-init : goal.loop-i-init
-loop-i-init c = (IsPermutation-refl c.args.points.now, omega arith, (λ i d h. absurd (omega arith)), (λ i d h k. absurd (omega arith)))
-
-pub is_in_upper-requires : goal.is_in_upper-requires
-is_in_upper-requires c =
-    let p = c.index-points-i.result in
-    let s = c.args.inner.now.space.now in (record {
-      level_lt_depth = c.requires.level_lt_depth;
-      point_len = ap length c.as_slice.ensures ∙ p.long
-          ∙ fitting_at s c.loop-i.points c.loop-i.i p (all_shuffled (λ (q : Keys). q.count ≡ s.keys) c.args.points.now c.loop-i.points c.loop-i.invariant.0 c.requires.fitting)
-          (omega (arith, c.loop-i-test.true, c.loop-i.auto.points)) c.index-points-i.is;
-    })
 
 pub loop-i-preserved : goal.loop-i-preserved
 loop-i-preserved c =
@@ -31,7 +16,7 @@ loop-i-preserved c =
     let i = c.loop-i.i in
     let inv = c.loop-i.invariant in
     let at : i < length qs = omega (arith, c.loop-i-test.true, c.loop-i.auto.points) in
-    let told = sym (c.is_in_upper.ensures ∙ ap (λ us. get_or (path (widths_of s) (order_of s) us) l false) c.as_slice.ensures) in
+    let told = ap (side s l) c.index-points-i.is ∙ sym (c.is_in_upper.ensures ∙ ap (λ us. get_or (path (widths_of s) (order_of s) us) l false) c.as_slice.ensures) in
     elim c.if-not-is_in_upper.branch [
       | then-not-is_in_upper w ↦
           let places = w.swap.ensures.by_index in
@@ -42,13 +27,3 @@ loop-i-preserved c =
           let upper = upper_more s l qs c.loop-i.lower i p at c.index-points-i.is inv.1 inv.2 inv.3 (told ∙ w.if-not-is_in_upper.false) in
           subst₂ (Standing s l c.args.points.now (i + 1)) (sym w.points-is) (sym w.lower-is) (inv.0, omega arith, inv.2, upper)
     ]
-
-pub returns : goal.returns
-returns c =
-    let inv = c.loop-i.invariant in
-    record {
-      same_points = inv.0;
-      within = omega (arith, c.loop-i.auto.points, c.loop-i.auto.i-end);
-      lower = inv.2;
-      upper = λ i d h k. inv.3 i d h (omega (arith, c.loop-i-test.false, c.loop-i.auto.points));
-    }

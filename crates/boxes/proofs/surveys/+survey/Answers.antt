@@ -1,130 +1,91 @@
-use Rattle.std.proofs.Common.{◌≡◌, ◌-◌, ◌<◌, true, false, [], ◌∷◌, take, drop, sym, refl, ap, ◌∙◌, subst, arith}
+use Rattle.std.proofs.Common.{◌≡◌, ◌-◌, length, drop, Some, None, true, false, sym, refl, ap, subst, arith}
 use Rattle.std.specs.List.Sorted.{IsPermutation}
-use Rattle.std.proofs.lemmas.List.Sorted.{IsPermutation-refl}
+use Rattle.std.proofs.lemmas.List.{length-drop, length-take}
 use Rattle.boxes.specs.declared.space.Space.{Space}
-use Rattle.boxes.specs.Surveys.{leaves_in}
-use Rattle.boxes.proofs.HalfLeaves.{leaf_few, leaf_point}
+use Rattle.boxes.specs.GridBoxes.{box_of}
+use Rattle.boxes.specs.Surveys.{Noted, Surveyed, leaves_in}
 use Rattle.boxes.proofs.Halvings.{half_falls}
-use Rattle.boxes.proofs.OfSurveys.{Halving, halving, leaf_surveyed, leaf_noted, lower_part, parts_back, lower_fits, upper_fits, both_shuffled, leaf_boxes_fit, directory_boxes_fit, surveyed_shut, surveyed_open, notes_shut, notes_open}
+use Rattle.boxes.proofs.OfSurveys.{halving, leaf_keeps, leaf_surveyed, alone_noted, parts_back, room_back, both_shuffled, leaf_boxes_fit, directory_boxes_fit, surveyed_shut, surveyed_open, keeps_all, notes_open}
 use Rattle.boxes.proofs.surveys.+survey.Goals as goal
-use Rattle.boxes.proofs.surveys.+survey.Goals.{then-points-capacity-via-then-points-capacity, then-points-capacity-via-else-points-capacity+then-inner}
 
-pub returns-then-points-capacity : goal.returns-then-points-capacity
-returns-then-points-capacity t c =
+pub returns-in_default-clause-found : goal.returns-in_default-clause-found
+returns-in_default-clause-found t c =
+    let g = c.args.inner.now in
+    subst (Surveyed g.space.now g.level (box_of g) c.args.capacity c.args.points.now) (sym c.alone.ensures.found) (leaf_surveyed g c.args.capacity c.args.points.now c.in_default.ensures c.one.result c.one.ensures)
+
+pub returns-in_default-clause-notes : goal.returns-in_default-clause-notes
+returns-in_default-clause-notes t c =
     let g = c.args.inner.now in
     let ps = c.args.points.now in
-    let alone : leaves_in g.space.now g.level c.args.capacity ps ≡ [] ∷ [] = elim c.then-points-capacity.branch [
-      | then-points-capacity-via-then-points-capacity w ↦ leaf_few g.space.now g.level c.args.capacity ps w.if-points-capacity.true
-      | then-points-capacity-via-else-points-capacity+then-inner w ↦ leaf_point g.space.now g.level c.args.capacity ps w.if-inner.true
-    ] in
-    record {
-      same = IsPermutation-refl ps;
-      found = leaf_surveyed g c.args.capacity ps alone c.one.result c.args.noted c.one.ensures;
-      notes = λ _. leaf_noted g c.args.capacity ps alone c.args.key c.args.noted c.args.room.now;
-    }
+    alone_noted g (leaves_in g.space.now g.level c.args.capacity ps) c.args.key c.alone.new.room c.requires (leaf_keeps g c.args.capacity ps c.in_default.ensures) (λ l. c.alone.ensures.noted (omega (arith, l, c.alone.auto.room)))
 
--- the halves, with the points as they are lent: the lower before its walk, the upper after it
 pub survey-lower-requires : goal.survey-lower-requires
 survey-lower-requires t c =
-    let g = c.args.inner.now in
-    let lo = c.half_unchecked-lower_half.result in
-    let qs = c.part-cut.new.points in
-    let r = c.part-cut.result in
-    let k : g.level < g.space.now.depth = omega (arith, c.if-inner.false, g.deep) in
-    let halves : Halving g lo c.half_unchecked-upper_half.result c.args.capacity c.args.points.now qs (take (r - 0) qs) (drop r qs) r = record {
-      deeper = k;
-      more = omega (arith, c.if-points-capacity.false);
-      sides = c.part-cut.ensures;
-      lower_half = c.half_unchecked-lower_half.ensures;
-      upper_half = c.half_unchecked-upper_half.ensures;
-      lower_points = lower_part qs r;
-      upper_points = refl;
-    } in (
-      omega (arith, c.decreases, half_falls g lo false c.half_unchecked-lower_half.ensures k),
-      (lower_fits halves c.requires.fitting, omega (arith, c.requires.key_lt_keys, ap (λ (u : Space). u.keys) c.half_unchecked-lower_half.ensures.0)),
+    let halves = c.in-Some.ensures.1 in (
+      omega (arith, c.decreases, half_falls c.args.inner.now c.in-Some.lower_half false halves.1 halves.0),
+      omega (arith, c.requires, ap (λ (u : Space). u.keys) halves.1.0),
     )
 
 pub survey-upper-requires : goal.survey-upper-requires
 survey-upper-requires t c =
-    let g = c.args.inner.now in
-    let up = c.half_unchecked-upper_half.result in
-    let qs = c.part-cut.new.points in
-    let r = c.part-cut.result in
-    let walked = c.survey-lower.new.points in
-    let k : g.level < g.space.now.depth = omega (arith, c.if-inner.false, g.deep) in
-    let halves = halving g c.half_unchecked-lower_half.result c.half_unchecked-upper_half.result c.args.capacity c.args.points.now qs walked r c.if-inner.false (omega (arith, c.if-points-capacity.false)) c.part-cut.ensures c.half_unchecked-lower_half.ensures c.half_unchecked-upper_half.ensures c.survey-lower.auto.points in (
-      omega (arith, c.decreases, half_falls g up true c.half_unchecked-upper_half.ensures k),
-      (upper_fits halves c.requires.fitting, omega (arith, c.requires.key_lt_keys, ap (λ (u : Space). u.keys) c.half_unchecked-upper_half.ensures.0)),
+    let halves = c.in-Some.ensures.1 in (
+      omega (arith, c.decreases, half_falls c.args.inner.now c.in-Some.upper_half true halves.2 halves.0),
+      omega (arith, c.requires, ap (λ (u : Space). u.keys) halves.2.0),
     )
 
 pub overflow_add-leaf_boxes : goal.overflow_add-leaf_boxes
 overflow_add-leaf_boxes t c =
-    let g = c.args.inner.now in
-    let qs = c.part-cut.new.points in
-    let r = c.part-cut.result in
-    let walked = c.survey-lower.new.points in
-    let halves = halving g c.half_unchecked-lower_half.result c.half_unchecked-upper_half.result c.args.capacity c.args.points.now qs walked r c.if-inner.false (omega (arith, c.if-points-capacity.false)) c.part-cut.ensures c.half_unchecked-lower_half.ensures c.half_unchecked-upper_half.ensures c.survey-lower.auto.points in
-    let x = c.survey-lower.result in
-    let y = c.survey-upper.result in
-    let fx = c.survey-lower.ensures.found in
-    let fy = c.survey-upper.ensures.found in
-    omega (arith, leaf_boxes_fit halves x y fx fy)
+    let halves = halving c.args.inner.now c.in-Some.lower_half c.in-Some.upper_half c.args.capacity c.args.points.now c.part-cut.new.points c.survey-lower.new.points c.part-cut.result c.in-Some.ensures c.part-cut.ensures c.survey-lower.auto.points in
+    omega (arith, leaf_boxes_fit halves c.survey-lower.result c.survey-upper.result c.survey-lower.ensures.found c.survey-upper.ensures.found)
 
-pub returns-then-is_some : goal.returns-then-is_some
-returns-then-is_some t c =
-    let g = c.args.inner.now in
-    let qs = c.part-cut.new.points in
-    let r = c.part-cut.result in
+pub returns-in-Some-halves_joined-clause-same : goal.returns-in-Some-halves_joined-clause-same
+returns-in-Some-halves_joined-clause-same t c =
     let walked = c.survey-lower.new.points in
-    let halves = halving g c.half_unchecked-lower_half.result c.half_unchecked-upper_half.result c.args.capacity c.args.points.now qs walked r c.if-inner.false (omega (arith, c.if-points-capacity.false)) c.part-cut.ensures c.half_unchecked-lower_half.ensures c.half_unchecked-upper_half.ensures c.survey-lower.auto.points in
-    let x = c.survey-lower.result in
-    let y = c.survey-upper.result in
-    let fx = c.survey-lower.ensures.found in
-    let fy = c.survey-upper.ensures.found in
-    let o = c.halves_joined-scales.result in
-    let j = c.halves_joined-scales.ensures in
-    let some = sym c.is_some.ensures ∙ c.if-is_some.true in
-    record {
-      same = subst (IsPermutation c.args.points.now) (sym (parts_back qs walked r c.part-cut.ensures.within c.survey-lower.auto.points c.survey-upper.new.points))
-          (both_shuffled halves walked c.survey-upper.new.points c.survey-lower.ensures.same c.survey-upper.ensures.same);
-      found = surveyed_shut halves x y fx fy o j some y.noted;
-      notes = λ room. notes_shut halves x y fx fy o j c.args.key c.requires.key_lt_keys c.args.room.now c.survey-lower.new.room c.survey-upper.new.room c.args.noted
-          c.survey-lower.ensures.notes c.survey-upper.ensures.notes c.survey-lower.auto.room c.survey-upper.auto.room room some;
-    }
+    let halves = halving c.args.inner.now c.in-Some.lower_half c.in-Some.upper_half c.args.capacity c.args.points.now c.part-cut.new.points walked c.part-cut.result c.in-Some.ensures c.part-cut.ensures c.survey-lower.auto.points in
+    subst (IsPermutation c.args.points.now) (sym (parts_back c.part-cut.new.points walked c.part-cut.result c.part-cut.ensures.within c.survey-lower.auto.points c.survey-upper.new.points))
+    (both_shuffled halves walked c.survey-upper.new.points c.survey-lower.ensures.same c.survey-upper.ensures.same)
+
+pub returns-in-Some-halves_joined-clause-found : goal.returns-in-Some-halves_joined-clause-found
+returns-in-Some-halves_joined-clause-found t c =
+    let g = c.args.inner.now in
+    let halves = halving g c.in-Some.lower_half c.in-Some.upper_half c.args.capacity c.args.points.now c.part-cut.new.points c.survey-lower.new.points c.part-cut.result c.in-Some.ensures c.part-cut.ensures c.survey-lower.auto.points in
+    subst (Surveyed g.space.now g.level (box_of g) c.args.capacity c.args.points.now) (sym c.alone-in-Some-halves_joined.ensures.found)
+    (surveyed_shut halves c.survey-lower.result c.survey-upper.result c.survey-lower.ensures.found c.survey-upper.ensures.found (Some c.in-Some-halves_joined.scales) c.in-Some-halves_joined.ensures refl)
+
+pub returns-in-Some-halves_joined-clause-notes : goal.returns-in-Some-halves_joined-clause-notes
+returns-in-Some-halves_joined-clause-notes t c =
+    let g = c.args.inner.now in
+    let halves = halving g c.in-Some.lower_half c.in-Some.upper_half c.args.capacity c.args.points.now c.part-cut.new.points c.survey-lower.new.points c.part-cut.result c.in-Some.ensures c.part-cut.ensures c.survey-lower.auto.points in
+    alone_noted g (leaves_in g.space.now g.level c.args.capacity c.args.points.now) c.args.key c.alone-in-Some-halves_joined.new.room c.requires
+    (keeps_all halves c.survey-lower.result c.survey-upper.result c.survey-lower.ensures.found c.survey-upper.ensures.found (Some c.in-Some-halves_joined.scales) c.in-Some-halves_joined.ensures)
+    (λ l. c.alone-in-Some-halves_joined.ensures.noted (omega (arith, l, c.alone-in-Some-halves_joined.auto.room)))
 
 pub overflow_add-result : goal.overflow_add-result
 overflow_add-result t c =
-    let g = c.args.inner.now in
-    let qs = c.part-cut.new.points in
-    let r = c.part-cut.result in
-    let walked = c.survey-lower.new.points in
-    let halves = halving g c.half_unchecked-lower_half.result c.half_unchecked-upper_half.result c.args.capacity c.args.points.now qs walked r c.if-inner.false (omega (arith, c.if-points-capacity.false)) c.part-cut.ensures c.half_unchecked-lower_half.ensures c.half_unchecked-upper_half.ensures c.survey-lower.auto.points in
-    let x = c.survey-lower.result in
-    let y = c.survey-upper.result in
-    let fx = c.survey-lower.ensures.found in
-    let fy = c.survey-upper.ensures.found in
-    omega (arith, directory_boxes_fit halves x y fx fy c.halves_joined-scales.result c.halves_joined-scales.ensures (sym c.is_some.ensures ∙ c.if-is_some.false))
+    let halves = halving c.args.inner.now c.in-Some.lower_half c.in-Some.upper_half c.args.capacity c.args.points.now c.part-cut.new.points c.survey-lower.new.points c.part-cut.result c.in-Some.ensures c.part-cut.ensures c.survey-lower.auto.points in
+    omega (arith, directory_boxes_fit halves c.survey-lower.result c.survey-upper.result c.survey-lower.ensures.found c.survey-upper.ensures.found None c.in_default-halves_joined.ensures refl)
 
-pub returns : goal.returns
-returns t c =
-    let g = c.args.inner.now in
-    let qs = c.part-cut.new.points in
-    let r = c.part-cut.result in
+pub returns-clause-same : goal.returns-clause-same
+returns-clause-same t c =
     let walked = c.survey-lower.new.points in
-    let halves = halving g c.half_unchecked-lower_half.result c.half_unchecked-upper_half.result c.args.capacity c.args.points.now qs walked r c.if-inner.false (omega (arith, c.if-points-capacity.false)) c.part-cut.ensures c.half_unchecked-lower_half.ensures c.half_unchecked-upper_half.ensures c.survey-lower.auto.points in
-    let x = c.survey-lower.result in
-    let y = c.survey-upper.result in
-    let fx = c.survey-lower.ensures.found in
-    let fy = c.survey-upper.ensures.found in
-    let o = c.halves_joined-scales.result in
-    let j = c.halves_joined-scales.ensures in
-    let none = sym c.is_some.ensures ∙ c.if-is_some.false in
-    record {
-      same = subst (IsPermutation c.args.points.now) (sym (parts_back qs walked r c.part-cut.ensures.within c.survey-lower.auto.points c.survey-upper.new.points))
-          (both_shuffled halves walked c.survey-upper.new.points c.survey-lower.ensures.same c.survey-upper.ensures.same);
-      found = surveyed_open halves x y fx fy o j none c.note-noted-2.result;
-      notes = λ room. notes_open halves x y fx fy o j c.args.key c.requires.key_lt_keys c.args.room.now c.survey-lower.new.room c.survey-upper.new.room c.args.noted
-          c.survey-lower.ensures.notes c.survey-upper.ensures.notes c.survey-lower.auto.room c.survey-upper.auto.room room none
-          c.note-noted.new.room c.note-noted-2.new.room c.note-noted.result c.note-noted-2.result c.is_some-2.result c.is_some-3.result c.is_some-2.ensures c.is_some-3.ensures
-          c.note-noted.ensures c.note-noted-2.ensures;
-    }
+    let halves = halving c.args.inner.now c.in-Some.lower_half c.in-Some.upper_half c.args.capacity c.args.points.now c.part-cut.new.points walked c.part-cut.result c.in-Some.ensures c.part-cut.ensures c.survey-lower.auto.points in
+    subst (IsPermutation c.args.points.now) (sym (parts_back c.part-cut.new.points walked c.part-cut.result c.part-cut.ensures.within c.survey-lower.auto.points c.survey-upper.new.points))
+    (both_shuffled halves walked c.survey-upper.new.points c.survey-lower.ensures.same c.survey-upper.ensures.same)
+
+pub returns-clause-found : goal.returns-clause-found
+returns-clause-found t c =
+    let halves = halving c.args.inner.now c.in-Some.lower_half c.in-Some.upper_half c.args.capacity c.args.points.now c.part-cut.new.points c.survey-lower.new.points c.part-cut.result c.in-Some.ensures c.part-cut.ensures c.survey-lower.auto.points in
+    surveyed_open halves c.survey-lower.result c.survey-upper.result c.survey-lower.ensures.found c.survey-upper.ensures.found None c.in_default-halves_joined.ensures refl
+
+pub returns-clause-notes : goal.returns-clause-notes
+returns-clause-notes t c =
+    let g = c.args.inner.now in
+    let ps = c.args.points.now in
+    let n = c.min-noted.result in
+    let r1 = c.survey-lower.new.room in
+    let r2 = c.survey-upper.new.room in
+    let halves = halving g c.in-Some.lower_half c.in-Some.upper_half c.args.capacity ps c.part-cut.new.points c.survey-lower.new.points c.part-cut.result c.in-Some.ensures c.part-cut.ensures c.survey-lower.auto.points in
+    let long : length r2 ≡ length r1 - n = omega (arith, c.survey-upper.auto.room, length-take (length r1 - n) (drop n r1), length-drop n r1) in
+    subst (Noted g.space.now g.level (box_of g) (leaves_in g.space.now g.level c.args.capacity ps) c.args.key) (sym (room_back r1 r2 n))
+    (notes_open halves c.survey-lower.result c.survey-upper.result c.survey-lower.ensures.found c.survey-upper.ensures.found None c.in_default-halves_joined.ensures c.args.key c.requires c.args.room.now r1 r2
+    c.survey-lower.ensures.notes c.survey-upper.ensures.notes n c.min-noted.ensures long refl)

@@ -1,18 +1,7 @@
-use Rattle.std.proofs.Common.{◌≡◌, ◌+◌, ◌*◌, ◌<◌, ◌≤◌, length, arith, rules}
+use Rattle.std.proofs.Common.{◌≡◌, ◌<◌, length, arith}
 use Rattle.buckets.specs.BucketRules.{count_of}
-use Rattle.buckets.proofs.BucketRooms.{ends_inside, capacity_small}
 use Rattle.buckets.proofs.BucketPushes.{pushed_is, put_is}
 use Rattle.buckets.proofs.bucket_writes.add_record.Goals as goal
-
-pub overflow_add-page : goal.overflow_add-page
-overflow_add-page g c = omega (arith, capacity_small _ (g.met.K.Kind.lawful c.args.kind.now), c.capacity.ensures)
-
-pub slice_bounds-copy_from_slice-end : goal.slice_bounds-copy_from_slice-end
-slice_bounds-copy_from_slice-end g c =
-    let z = c.size-size.result in
-    let n = count_of c.args.page.now in
-    let e : 4 + n * z + z ≤ 512 = rw c.size-size.ensures (ends_inside _ (g.met.K.Kind.lawful c.args.kind.now) n (omega (arith, c.capacity.ensures))) in
-    search rules
 
 pub returns : goal.returns
 returns g c =

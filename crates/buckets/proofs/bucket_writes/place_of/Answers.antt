@@ -1,31 +1,18 @@
-use Rattle.std.proofs.Common.{◌≡◌, min, Some, None, arith}
+-- The search over the places finds the first record with the keys.
+use Rattle.std.proofs.Common.{◌≡◌, ℕ, ◌<◌, min, Some, arith, rules}
+use borrow.Author.Tests.{tests}
+use Rattle.std.proofs.lemmas.Iterator.{first_from_Range}
 use Rattle.buckets.specs.Bucket.{record_at}
 use Rattle.buckets.specs.BucketRules.{count_of}
-use Rattle.buckets.specs.Firsts.{FirstWith}
-use Rattle.buckets.proofs.BucketFinds.{found_listed}
+use Rattle.buckets.proofs.BucketFinds.{first_in_range, found_listed}
 use Rattle.buckets.proofs.bucket_writes.place_of.Goals as goal
 
-pub returns-then-has_keys : goal.returns-then-has_keys
-returns-then-has_keys g c =
+pub returns-clause-any : goal.returns-clause-any
+returns-clause-any g c =
     let m = g.K.Kind.meaning c.args.kind.now in
-    let page = c.args.page.now in
-    let keys = c.args.keys.now in
-    let i = c.loop-i.i in
-    let first : FirstWith (λ k. m.read (record_at m page k) ≡ Some keys) (min (count_of page) m.capacity) (Some i) =
-    (omega (arith, c.record_count-i-end.ensures.any), c.has_keys.ensures.0 c.if-has_keys.true, c.loop-i.invariant) in
-    record {
-      any = first;
-      listed = λ level rs of. found_listed m (g.met.K.Kind.lawful c.args.kind.now) page keys level rs of (Some i) first;
-    }
+    let P : ℕ → Type 0 = λ i. m.read (record_at m c.args.page.now i) ≡ Some c.args.keys.now in
+    first_in_range P (λ i. i < m.capacity) (min (count_of c.args.page.now) m.capacity) _ c.find.result c.record_count.ensures.any (λ k h. omega arith)
+    (first_from_Range _ _ _ _ (λ i. i < m.capacity → P i) (λ i. i < m.capacity → P i → ⊥) c.find.ensures.ran (λ x q k. search (rules, tests)) (λ x q k. search (rules, tests)))
 
-pub returns : goal.returns
-returns g c =
-    let m = g.K.Kind.meaning c.args.kind.now in
-    let page = c.args.page.now in
-    let keys = c.args.keys.now in
-    let none : FirstWith (λ k. m.read (record_at m page k) ≡ Some keys) (min (count_of page) m.capacity) None =
-    λ k h. c.loop-i.invariant k (omega (arith, c.record_count-i-end.ensures.any)) in
-    record {
-      any = none;
-      listed = λ level rs of. found_listed m (g.met.K.Kind.lawful c.args.kind.now) page keys level rs of None none;
-    }
+pub returns-clause-listed : goal.returns-clause-listed
+returns-clause-listed g c = λ level rs of. found_listed (g.K.Kind.meaning c.args.kind.now) (g.met.K.Kind.lawful c.args.kind.now) c.args.page.now c.args.keys.now level rs of c.find.result (returns-clause-any g c)

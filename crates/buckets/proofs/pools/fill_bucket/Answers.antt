@@ -1,10 +1,10 @@
 -- One string after the other.
-use Rattle.std.proofs.Common.{ℕ, ◌+◌, ◌*◌, ◌/◌, ◌≤◌, List, [], length, take, sym, refl, ap, ◌∙◌, subst, arith, rules}
-use Rattle.std.proofs.lemmas.List.{take_all}
+use Rattle.std.proofs.Common.{◌*◌, ◌/◌, ◌%◌, length, Err, sym, refl, ap, ◌∙◌, subst, arith}
+use Rattle.std.specs.Slice.Iter.{chunks_exact_rest, chunks_exact_size}
 use Rattle.boxes.specs.GridBoxes.{box_of}
 use Rattle.boxes.specs.Spaces.{widths_of, order_of}
-use Rattle.buckets.specs.Pools.{parts, InBox, Chosen}
-use Rattle.buckets.proofs.OfPools.{parts_long, whole_strings, ragged, string_within, string_more}
+use Rattle.buckets.specs.Pools.{InBox, Filled, not_filled}
+use Rattle.buckets.proofs.OfPools.{ragged, whole_strings, walk_starts, walk_goes_on, walk_overfull, walk_ends, err_is}
 use Rattle.buckets.proofs.pools.fill_bucket.Goals as goal
 
 pub returns-then-pool-size-ne0 : goal.returns-then-pool-size-ne0
@@ -12,83 +12,64 @@ returns-then-pool-size-ne0 g c =
     let z = c.size-size.ensures in
     ((λ n e. ragged (length c.args.pool.now) c.size-size.result c.if-pool-size-ne0.true n (e ∙ ap (λ k. n * k) (sym z))), refl)
 
-pub loop-i-init : goal.loop-i-init
-loop-i-init g c = (c.start_bucket.array_long, ([], refl, c.start_bucket.ensures (g.K.Kind.meaning c.args.kind.now)))
-
-pub overflow_mul-start : goal.overflow_mul-start
-overflow_mul-start g c =
-    let n = length c.args.pool.now in
-    let z = c.size-size.result in
-    let w = string_within (n / z) z c.loop-i.i c.loop-i-test.true in
-    let e = whole_strings n z c.if-pool-size-ne0.false in
-    search rules
-
-pub overflow_add-start : goal.overflow_add-start
-overflow_add-start g c =
-    let n = length c.args.pool.now in
-    let z = c.size-size.result in
-    let w = string_within (n / z) z c.loop-i.i c.loop-i-test.true in
-    let e = whole_strings n z c.if-pool-size-ne0.false in
-    search rules
-
-pub slice_bounds-take_in-end : goal.slice_bounds-take_in-end
-slice_bounds-take_in-end g c =
-    let n = length c.args.pool.now in
-    let z = c.size-size.result in
-    let w : c.loop-i.i * z + z ≤ n = omega (arith, string_within (n / z) z c.loop-i.i c.loop-i-test.true, whole_strings n z c.if-pool-size-ne0.false) in
-    search rules
-
-pub returns-then-not-take_in : goal.returns-then-not-take_in
-returns-then-not-take_in g c =
+pub loop-bytes-init : goal.loop-bytes-init
+loop-bytes-init g c =
+    let kind = c.args.kind.now in
+    let m = g.K.Kind.meaning kind in
+    let inner = c.args.inner.now in
+    let s = inner.space.now in
     let pool = c.args.pool.now in
-    let z = c.size-size.result in
-    let i = c.loop-i.i in
-    let n = length pool / z in
-    let m = g.K.Kind.meaning c.args.kind.now in
-    let s = c.args.inner.now.space.now in
-    let P = InBox m (widths_of s) (order_of s) (box_of c.args.inner.now) in
-    let inv = c.loop-i.invariant.1 in
-    let took = c.if-not-take_in.ensures (take i (parts n z pool)) inv.0 inv.1 inv.2 in
-    let step = string_more n z i pool c.loop-i-test.true in
-    let size = c.size-size.ensures in (
-      refl,
-      (
-        n,
-        whole_strings (length pool) z c.if-pool-size-ne0.false ∙ ap (λ k. n * k) size,
-        (
-          i + 1,
-          omega (arith, c.loop-i-test.true),
-          (took.0, subst (λ (k : ℕ). Chosen P (take (i + 1) (parts n k pool)) took.0) size (subst (λ (rs : List (List ℕ)). Chosen P rs took.0) step took.1), took.2),
-        ),
-      ),
+    let chunks = c.chunks_exact-bytes-items.ensures in
+    let same = c.into_iter-bytes-iterator.ensures.into_iter_gives in
+    let z = c.size-size.ensures in (
+      ap chunks_exact_size same ∙ chunks.size ∙ z,
+      c.start_bucket.array_long,
+      walk_starts m (g.met.K.Kind.lawful kind) (InBox m (widths_of s) (order_of s) (box_of inner)) inner.level pool _ c.start_bucket.new.page
+          (ap (λ n. length pool % n) (sym z) ∙ c.if-pool-size-ne0.false) (ap chunks_exact_rest same ∙ chunks.rest) (c.start_bucket.ensures m),
     )
 
-pub loop-i-preserved : goal.loop-i-preserved
-loop-i-preserved g c =
+pub loop-bytes-preserved : goal.loop-bytes-preserved
+loop-bytes-preserved g c =
+    let kind = c.args.kind.now in
+    let m = g.K.Kind.meaning kind in
+    let inner = c.args.inner.now in
+    let s = inner.space.now in
+    let inv = c.loop-bytes.invariant in
+    let w = inv.2 in
+    let step = c.in-Some.ensures.steps in (
+      step.0 ∙ inv.0,
+      c.type_inv.bucket,
+      walk_goes_on m (g.met.K.Kind.lawful kind) (InBox m (widths_of s) (order_of s) (box_of inner)) inner.level c.args.pool.now _ _ w c.in-Some.bytes.now (chunks_exact_rest c.next.new.self)
+          step.1.0 (step.1.1 ∙ inv.0) c.take_in.new.bucket (c.in_ok-take_in.ensures w.so_far w.chosen w.picked w.held),
+    )
+
+pub returns-in_err-take_in : goal.returns-in_err-take_in
+returns-in_err-take_in g c =
+    let kind = c.args.kind.now in
+    let m = g.K.Kind.meaning kind in
+    let inner = c.args.inner.now in
+    let s = inner.space.now in
     let pool = c.args.pool.now in
-    let z = c.size-size.result in
-    let i = c.loop-i.i in
-    let n = length pool / z in
-    let m = g.K.Kind.meaning c.args.kind.now in
-    let s = c.args.inner.now.space.now in
-    let P = InBox m (widths_of s) (order_of s) (box_of c.args.inner.now) in
-    let inv = c.loop-i.invariant.1 in
-    let took = c.if-not-take_in.ensures (take i (parts n z pool)) inv.0 inv.1 inv.2 in
-    let step = string_more n z i pool c.loop-i-test.true in
-    (c.type_inv.bucket, (took.0, subst (λ (rs : List (List ℕ)). Chosen P rs took.0) step took.1, took.2))
+    let P = InBox m (widths_of s) (order_of s) (box_of inner) in
+    let inv = c.loop-bytes.invariant in
+    let w = inv.2 in
+    let step = c.in-Some.ensures.steps in
+    let took = c.in_err-take_in.ensures w.so_far w.chosen w.picked w.held in
+    let whole = whole_strings (length pool) m.size (ap (λ n. length pool % n) (sym c.size-size.ensures) ∙ c.if-pool-size-ne0.false) in
+    let over = walk_overfull m (g.met.K.Kind.lawful kind) P inner.level pool _ _ w c.in-Some.bytes.now (chunks_exact_rest c.next.new.self) step.1.0 (step.1.1 ∙ inv.0) (took.0, took.1, took.2.1) in
+    subst (λ r. Filled m P inner.level pool c.args.page.now c.args.page.now r) (sym (err_is c.from_residual.result _ c.from_residual.ensures.1 ∙ ap (λ fault. Err (not_filled fault)) took.2.0))
+    (refl, (length pool / m.size, whole, over))
 
 pub returns : goal.returns
 returns g c =
+    let kind = c.args.kind.now in
+    let m = g.K.Kind.meaning kind in
+    let inner = c.args.inner.now in
+    let s = inner.space.now in
     let pool = c.args.pool.now in
-    let z = c.size-size.result in
-    let m = g.K.Kind.meaning c.args.kind.now in
-    let s = c.args.inner.now.space.now in
-    let P = InBox m (widths_of s) (order_of s) (box_of c.args.inner.now) in
-    let n = length pool / z in
-    let inv = c.loop-i.invariant.1 in
-    let all = take_all c.loop-i.i (parts n z pool) (omega (arith, parts_long n z pool, c.loop-i-test.false)) in
-    let size = c.size-size.ensures in (
-      n,
-      whole_strings (length pool) z c.if-pool-size-ne0.false ∙ ap (λ k. n * k) size,
-      (inv.0, subst (λ (k : ℕ). Chosen P (parts n k pool) inv.0) size (subst (λ (rs : List (List ℕ)). Chosen P rs inv.0) all inv.1), inv.2),
+    let inv = c.loop-bytes.invariant in
+    let step = c.in-None.ensures.steps in (
+      length pool / m.size,
+      whole_strings (length pool) m.size (ap (λ n. length pool % n) (sym c.size-size.ensures) ∙ c.if-pool-size-ne0.false),
+      walk_ends m (g.met.K.Kind.lawful kind) (InBox m (widths_of s) (order_of s) (box_of inner)) inner.level pool _ _ inv.2 (omega (arith, step.1.0, inv.0)),
     )

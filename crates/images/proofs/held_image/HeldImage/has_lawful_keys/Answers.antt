@@ -1,13 +1,16 @@
--- A key that breaks the rules breaks them all.
-use Rattle.std.proofs.Common.{sym, ◌∙◌, below_more}
-use Rattle.std.proofs.lemmas.Bool.{false≢true}
+-- Each key is checked.
+use Rattle.std.proofs.Common.{ℕ, ◌<◌, refl, arith, rules}
+use Rattle.std.proofs.lemmas.Bool.Decides.{Decides-like}
+use Rattle.std.proofs.lemmas.Iterator.{YieldsList-from_range}
+use Rattle.images.specs.Checking.{HasLawful, KeyLawful}
+use Rattle.images.proofs.Every.{all_below}
 use Rattle.images.proofs.held_image.HeldImage.has_lawful_keys.Goals as goal
 
-pub returns-then-not-has_lawful_key : goal.returns-then-not-has_lawful_key
-returns-then-not-has_lawful_key g c = (
-  (λ e. absurd (false≢true e)),
-  (λ w. absurd (false≢true (sym c.if-not-has_lawful_key.true ∙ c.has_lawful_key.ensures.1 (w c.loop-key.key c.loop-key-test.true)))),
-)
-
-pub loop-key-preserved : goal.loop-key-preserved
-loop-key-preserved g c = below_more _ _ c.loop-key.invariant (c.has_lawful_key.ensures.0 c.if-not-has_lawful_key.false)
+pub returns : goal.returns
+returns g c =
+    let b = c.args.inner.now in
+    let d = c.args.self.now in
+    let n = d.keys in
+    let P : ℕ → Type 0 = HasLawful b d in
+    let all = all_below _ _ c.all.result P c.all.ensures.ran (λ x b q k. search rules) n (YieldsList-from_range 0 n n refl (omega arith)) in
+    Decides-like c.all.result (λ (w : (i : ℕ) → i < n → P i). λ i l. (w i l).lawful) (λ (w : (i : ℕ) → i < n → KeyLawful b d i). λ i l. record { has = (c.requires, l); lawful = w i l }) all

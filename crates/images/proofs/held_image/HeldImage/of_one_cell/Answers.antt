@@ -13,7 +13,7 @@ invariant_of-result g c =
     let k = c.args.keys in
     let few : k ≤ 4 = omega arith in
     let xs : List ℕ = replicate g.row.ENDS 0 in
-    let some : 1 ≤ g.row.CELLS = omega arith in record { most_ends = omega arith; most_cells = omega arith; few = few; wide = wide_none k few xs; long = length-replicate {A = ℕ} g.row.ENDS 0; room = omega (arith, total_none k few xs); small = omega (arith, one_interval k few xs); rising = rising_none k few xs }
+    let some : 1 ≤ g.row.CELLS = omega arith in record { most_ends = omega arith; most_cells = omega arith; few = few; wide = wide_none k few xs; long = length-replicate {A = ℕ} g.row.ENDS 0; many = length-replicate g.row.CELLS c.args.cell; room = omega (arith, total_none k few xs); small = omega (arith, one_interval k few xs); rising = rising_none k few xs }
 
 pub returns : goal.returns
 returns g c =

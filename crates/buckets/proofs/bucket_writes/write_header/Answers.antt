@@ -1,5 +1,0 @@
-use Rattle.std.proofs.Common.{refl, arith}
-use Rattle.buckets.proofs.bucket_writes.write_header.Goals as goal
-
-pub returns : goal.returns
-returns c = λ m. record { laid_out = refl; few = omega arith; sized = λ j h. absurd (omega arith) }

@@ -1,7 +1,0 @@
--- The counts that are left make up the sum.
-use Rattle.std.proofs.Common.{◌≡◌, ◌+◌, drop}
-use Rattle.images.specs.Parts.{total}
-use Rattle.tilings.proofs.counting.boundaries_of.Given as goal
-
-abbrev pub invariant-loop-count : goal.invariant-loop-count
-invariant-loop-count l = l.sum + total (drop l.count-index l.counts) ≡ total l.counts
