@@ -55,17 +55,6 @@ module _ (f : List ℕ) (ws : List (List ℕ)) (count n : ℕ) (long : length f 
     λ j k. zeros j (omega arith),
   )
 
-pub all_zero : (j : ℕ) → ◌≡◌ {A = ℕ} (get_or (0 ∷ 0 ∷ 0 ∷ 0 ∷ 0 ∷ 0 ∷ 0 ∷ 0 ∷ []) j 0) 0
-all_zero zero = refl
-all_zero (suc zero) = refl
-all_zero (suc (suc zero)) = refl
-all_zero (suc (suc (suc zero))) = refl
-all_zero (suc (suc (suc (suc zero)))) = refl
-all_zero (suc (suc (suc (suc (suc zero))))) = refl
-all_zero (suc (suc (suc (suc (suc (suc zero)))))) = refl
-all_zero (suc (suc (suc (suc (suc (suc (suc zero))))))) = refl
-all_zero (suc (suc (suc (suc (suc (suc (suc (suc j)))))))) = refl
-
 -- words that each write a number write a list of numbers
 pub collected : (m : ℕ) (ws : List (List ℕ)) (f : ℕ → ℕ) → ((j : ℕ) → j < length ws → (n : ℕ) × Writes (get_or ws j []) n × (j < m → f j ≡ n))
     → (ns : List ℕ) × (ws ≡ map decimal ns) × AllByRecursion (λ n. n ≤ 4294967295) ns × (length ns ≡ length ws) × ((j : ℕ) → j < length ws → j < m → f j ≡ get_or ns j 0)

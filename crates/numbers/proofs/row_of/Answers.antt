@@ -1,18 +1,13 @@
-use Rattle.std.proofs.Common.{◌≡◌, eqb, [], length, get_or, sym, refl, ap, ◌∙◌, subst, inl, inr, arith, rules}
+use Rattle.std.proofs.Common.{◌≡◌, eqb, [], length, get_or, sym, ap, ◌∙◌, subst, inl, inr, arith, rules}
 use Rattle.std.proofs.lemmas.List.{get_or_past, length_push}
 use Rattle.std.proofs.lemmas.Bool.{cases_lt}
 use Rattle.std.proofs.lemmas.Iterator.Consumers.{YieldsList-at}
 use Rattle.std.proofs.lemmas.Iterator.Splits.{YieldsList-from_slice_split}
-use Rattle.std.proofs.lemmas.List.Splits.{length-slice_split}
-use Rattle.std.proofs.lemmas.List.Sums.{count_by-le-length}
 use Rattle.numbers.specs.Numbers.{Writes}
 use Rattle.numbers.specs.Words.{words}
-use Rattle.numbers.proofs.Wording.{word_here, words_end, RowSoFar, row_more, row_full, all_zero, collected, unwritten, one_reading}
+use Rattle.numbers.proofs.Wording.{word_here, words_end, RowSoFar, row_more, row_full, collected, unwritten, one_reading}
 use Rattle.numbers.proofs.row_of.Goals as goal
 use Rattle.numbers.proofs.row_of.Goals.{then-count-lt8, else-count-lt8}
-
-pub loop-word-init : goal.loop-word-init
-loop-word-init c = (refl, refl, (λ j h. absurd (omega arith)), (λ j h. all_zero j))
 
 pub returns-in_err-number : goal.returns-in_err-number
 returns-in_err-number c =
@@ -21,14 +16,6 @@ returns-in_err-number c =
     let h = word_here c.loop-word.yielded _ c.loop-word.yielded_by _ _ c.in-Some.word c.in-Some.is c.next.ensures.steps
     (YieldsList-at c.into_iter-word-iterator.ensures.into_iter_gives (YieldsList-from_slice_split _ (λ b. eqb b c.args.mark) c.args.line.now c.split-word-items.ensures.rest c.split-word-items.ensures.done c.split-word-items.ensures.closure (λ x b q k. search rules))) in
     rw c.from_residual.ensures (λ ns w. c.in_err-number.ensures (get_or ns j 0) (subst (λ us. Writes us (get_or ns j 0)) (sym h.1) (unwritten ws j ns h.0 w.0 w.1)))
-
-pub overflow_add-count : goal.overflow_add-count
-overflow_add-count c =
-    let h = word_here c.loop-word.yielded _ c.loop-word.yielded_by _ _ c.in-Some.word c.in-Some.is c.next.ensures.steps
-    (YieldsList-at c.into_iter-word-iterator.ensures.into_iter_gives (YieldsList-from_slice_split _ (λ b. eqb b c.args.mark) c.args.line.now c.split-word-items.ensures.rest c.split-word-items.ensures.done c.split-word-items.ensures.closure (λ x b q k. search rules))) in
-    let long = length-slice_split (λ b. eqb b c.args.mark) c.args.line.now in
-    let few = count_by-le-length (λ b. eqb b c.args.mark) c.args.line.now in
-    omega (arith, h.0, c.loop-word.invariant.0, long, few)
 
 pub loop-word-preserved : goal.loop-word-preserved
 loop-word-preserved c =

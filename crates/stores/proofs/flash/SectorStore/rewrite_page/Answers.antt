@@ -1,21 +1,7 @@
-use Rattle.std.proofs.Common.{◌+◌, ◌-◌, ◌*◌, ◌/◌, ◌%◌, sym, ◌∙◌, arith}
+use Rattle.std.proofs.Common.{◌+◌, ◌-◌, ◌*◌, ◌/◌, ◌%◌, ◌∙◌, arith}
 use Rattle.stores.proofs.Erasing.{put_in, erased_programmed}
 use Rattle.stores.proofs.MemoryPages.{sector_replaced}
 use Rattle.stores.proofs.flash.SectorStore.rewrite_page.Goals as goal
-
-pub slice_bounds-program-end : goal.slice_bounds-program-end
-slice_bounds-program-end c =
-    let m = c.args.self.now.memory.now in
-    let s = c.args.page / 8 in
-    let a = 512 * (c.args.page % 8) in
-    sym (put_in m _ _ c.args.bytes.now s a _ (omega arith) (omega arith) c.load.ensures c.copy_from_slice.ensures.after (omega arith) c.told-bytes).1
-
-pub program-requires : goal.program-requires
-program-requires c =
-    let m = c.args.self.now.memory.now in
-    let s = c.args.page / 8 in
-    let a = 512 * (c.args.page % 8) in
-    omega (arith, c.erase.ensures.erased.long, (put_in m c.load.new.buffer c.copy_from_slice.new.self c.args.bytes.now s a (a + 512 - a) (omega arith) (omega arith) c.load.ensures c.copy_from_slice.ensures.after (omega arith) c.told-bytes).1)
 
 pub returns : goal.returns
 returns c =
