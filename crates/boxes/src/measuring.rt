@@ -1,6 +1,6 @@
 // The figures of a set of points.
 // Points, capacity and room stay parameters of their own: the walk lends a part of the points and of the room to each half of a box.
-ghost use Rattle.std.specs.Prelude.{◌≡◌, ℕ, ◌<◌, ◌≤◌, ◌↔◌, map, length, IsTrue, slice_index};
+ghost use Rattle.std.specs.Prelude.{◌≡◌, ℕ, ◌<◌, ◌≤◌, ◌↔◌, map, length, drop, IfOk, IsTrue, slice_index};
 ghost use Rattle.std.specs.List.Sorted.{IsPermutation, IsNonDecreasing};
 ghost use Rattle.boxes.specs.Directories.{directories, distinct, ends};
 ghost use Rattle.boxes.specs.Figures.{Measured, Points};
@@ -65,14 +65,15 @@ fn root_counts(space: &Space, points: &mut [Keys], capacity: usize, room: &mut [
 }
 
 // The figures of a set of points, with at most `capacity` of them in a leaf box. The points come back in another order.
-// The room lent is to have a place for each directory box: lend none to learn how many there are.
+// The room lent is to have a place for each directory box: lend none to learn how many there are. What it has behind these places stays as it was.
 pub fn measure(
     space: &Space,
     capacity: usize,
     points: &mut [Keys],
     room: &mut [u32],
 ) -> Result<Figures, NotMeasured>
-    ensures { Measured space.now capacity points.old points.new room.old room.new result }
+    ensures measured { Measured space.now capacity points.old points.new room.old room.new result }
+    ensures rest { IfOk result (λ figures. drop figures.directory_boxes room.new ≡ drop figures.directory_boxes room.old) }
 {
     if !are_points(space, points) {
         return Err(NotMeasured::NotPoints);
@@ -81,7 +82,7 @@ pub fn measure(
     if room.len() < found.directory_boxes {
         return Err(NotMeasured::ShortRoom(found.directory_boxes));
     }
-    let counts = root_counts(space, points, capacity, room);
+    let counts = root_counts(space, points, capacity, &mut room[..found.directory_boxes]);
     let root = EndGrid::of(&counts[..space.keys]);
     Ok(Figures {
         leaf_boxes: found.leaf_boxes,

@@ -1,7 +1,7 @@
 -- The strings of a pool, taken one after the other.
-use Rattle.std.proofs.Common.{◌≡◌, ℕ, zero, suc, ◌+◌, ◌*◌, ◌/◌, ◌%◌, ◌<◌, ◌≤◌, List, [], ◌∷◌, ◌++◌, length, take, drop, Ok, Err, Result, IsErrAnd, sym, refl, ap, ◌∙◌, subst, inl, inr, append-nil, append_assoc, arith, length-append}
+use Rattle.std.proofs.Common.{◌≡◌, ℕ, zero, suc, ◌+◌, ◌*◌, ◌/◌, ◌%◌, ◌<◌, ◌≤◌, List, [], ◌∷◌, ◌++◌, length, get_or, take, drop, Ok, Err, Result, IsErrAnd, sym, refl, ap, ◌∙◌, subst, inl, inr, append-nil, append_assoc, arith, length-append}
 use native.Mathlib.Nat.{mod-add-div, mul-mod_left}
-use Rattle.std.proofs.lemmas.List.{take_at, drop_at}
+use Rattle.std.proofs.lemmas.List.{take_at, drop_at, drop-drop}
 use Rattle.kinds.specs.Meaning.{Meaning, Lawful}
 use Rattle.buckets.specs.Bucket.{BucketOf}
 use Rattle.buckets.specs.BucketWrites.{Added}
@@ -24,6 +24,14 @@ module _ (P : List ℕ → Type 0) where
 pub parts_long : (n z : ℕ) (pool : List ℕ) → length (parts n z pool) ≡ n
 parts_long zero z pool = refl
 parts_long (suc n) z pool = ap suc (parts_long n z (drop z pool))
+
+-- each string
+pub parts_at : (n z : ℕ) (pool : List ℕ) (i : ℕ) → i < n → get_or (parts n z pool) i [] ≡ take z (drop (i * z) pool)
+parts_at zero z pool i l = absurd (omega arith)
+parts_at (suc n) z pool zero l = let e : 0 * z ≡ 0 = omega arith in ap (λ k. take z (drop k pool)) (sym e)
+parts_at (suc n) z pool (suc i) l =
+    let e : z + i * z ≡ suc i * z = omega arith in
+    parts_at n z (drop z pool) i (omega arith) ∙ ap (take z) (drop-drop (i * z) z pool ∙ ap (λ k. drop k pool) e)
 
 -- the first string, where it is known
 string_first : (n z : ℕ) (r rest : List ℕ) → length r ≡ z → parts (suc n) z (r ++ rest) ≡ r ∷ parts n z rest

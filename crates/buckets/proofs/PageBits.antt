@@ -1,18 +1,9 @@
 -- Bits of bytes, and how many pages are in use.
 use Rattle.std.proofs.Common.{◌≡◌, ℕ, zero, suc, ◌+◌, ◌/◌, ◌%◌, ◌^◌, ◌<◌, ◌≤◌, Bool, true, false, cond, not, ◌&&◌, eqb, List, length, take, get_or, sym, refl, ap, ◌∙◌, ⊎_elim, zero-add, arith}
-use denote.Param.Members.{Mut}
-use denote.Ref.{Bor}
-use Rattle.std.specs.Fn.{CalledAt}
-use Rattle.std.specs.List.{filter, range_with_len}
-use Rattle.std.specs.Iterator.{Drains}
-use Rattle.std.specs.Iterator.Adapters.{filter_source, filter_callee, filter_steps}
-use Rattle.std.specs.declared.ops.Range.{Range}
-use Rattle.std.specs.declared.iter.Filter.{Filter}
-use Rattle.std.proofs.iter.Yields.{nat_range_steps}
-use Rattle.std.proofs.lemmas.Iterator.{YieldsList-from_range}
-use Rattle.std.proofs.lemmas.Iterator.Consumers.{YieldsList-from_filter, count_from_yields_List}
+use Rattle.std.specs.List.{count_by, filter, range_with_len}
 use Rattle.std.proofs.lemmas.List.{take_all}
 use Rattle.std.proofs.lemmas.List.Filters.{length-filter_more}
+use Rattle.std.proofs.lemmas.List.Sums.{length-filter, count_by-le-length}
 use Rattle.std.proofs.lemmas.List.FromFn.{length-range_with_len, get_or-range_with_len}
 use mathlib.Core.Bool.{beq}
 use lib.Bits.{bit_xor}
@@ -94,12 +85,13 @@ counted_taken f n (suc i) h =
     ∙ ap (λ k. length (filter f (take i pages)) + cond (f k) 1 0) page
     ∙ ap (λ k. k + cond (f i) 1 0) (counted_taken f n i (omega arith))
 
--- a count of the pages below n for which the closure told f
-module _ {F : Type 0} (g : Mut F (Bor ℕ × Unit {0}) Bool) (f : ℕ → Bool) (n : ℕ) (s : Filter (Range ℕ) F) (callee : F)
-    (source : filter_source s ≡ record { start = 0; end = n }) (closure : filter_callee s ≡ callee)
-    (told : (x : ℕ) (b : Bool) (q : F) → CalledAt g callee x b q → (q ≡ callee) × (b ≡ f x)) where
-  pub pages_counted : (r : ℕ) → ((xs : List ℕ) × Drains (filter_steps nat_range_steps g) s xs × (r ≡ length xs)) → r ≡ counted n f
-  pages_counted r ran =
-      count_from_yields_List s r ran (YieldsList-from_filter g f (YieldsList-from_range 0 n n source (omega arith)) closure told)
-      ∙ ap (λ pages. length (filter f pages)) (sym (take_all n (range_with_len 0 n) (omega (arith, length-range_with_len 0 n))))
-      ∙ counted_taken f n n (omega arith)
+-- a one for each page in use, of the pages below n
+pub pages_counted : (f : ℕ → Bool) (n : ℕ) → count_by f (range_with_len 0 n) ≡ counted n f
+pages_counted f n =
+    let pages = range_with_len 0 n in
+    sym (length-filter f pages)
+    ∙ ap (λ (js : List ℕ). length (filter f js)) (sym (take_all n pages (omega (arith, length-range_with_len 0 n))))
+    ∙ counted_taken f n n (omega arith)
+
+pub pages_fit : (f : ℕ → Bool) (n : ℕ) → n < 18446744073709551616 → count_by f (range_with_len 0 n) < 18446744073709551616
+pages_fit f n few = omega (arith, few, count_by-le-length f (range_with_len 0 n), length-range_with_len 0 n)

@@ -1,5 +1,5 @@
 -- Records written side by side.
-use Rattle.std.proofs.Common.{◌≡◌, ℕ, suc, ◌+◌, ◌*◌, ◌<◌, ◌≤◌, Bool, true, false, cond, ◌&&◌, List, [], ◌∷◌, ◌++◌, length, get_or, take, drop, filter, Some, None, Option, MatchOption, sym, refl, ap, ◌∙◌, subst, ap₂, inl, inr, append_assoc, append-nil, arith, length-append, take-append-drop, length-take}
+use Rattle.std.proofs.Common.{◌≡◌, ℕ, suc, ◌+◌, ◌*◌, ◌<◌, ◌≤◌, Bool, true, false, cond, ◌&&◌, List, [], ◌∷◌, ◌++◌, length, get_or, take, drop, filter, Some, None, Option, IfSome, MatchOption, sym, refl, ap, ◌∙◌, subst, ap₂, inl, inr, append_assoc, append-nil, arith, length-append, take-append-drop, length-take}
 use Rattle.std.specs.Option.{unwrap_or}
 use borrow.Rule.Slice.PartMut.{put_mid}
 use Rattle.std.proofs.lemmas.List.Elements.{filter_more}
@@ -55,6 +55,11 @@ written_part start k old bytes part room e p =
       omega (arith, ap length front, length-append (take start old) part, length-take-le start old (omega arith), length-take (start + length bytes) (put_mid start k old part)),
       (refl, front ∙ ap (λ (z : List ℕ). take start old ++ z) p, rest),
     )
+
+-- what is written ends in the buffer, and so does what was written before where nothing is
+pub end_within : (o : Option ℕ) (start end : ℕ) (old new : List ℕ) → length new ≡ length old → IfSome o (λ e. e ≤ length new) → end ≡ unwrap_or o start → start ≤ length old → end ≤ length new
+end_within None start end old new same h is l = omega arith
+end_within (Some e) start end old new same h is l = omega arith
 
 -- where there is room, they are written
 pub put_there : (o : Option ℕ) (start : ℕ) (bytes old new : List ℕ) → MatchOption o (length old < start + length bytes) (λ end. Written start bytes end old new)

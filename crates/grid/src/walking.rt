@@ -1,5 +1,5 @@
 // The records in a range, box by box: counted, and written where there is room for them.
-ghost use Rattle.std.specs.Prelude.{◌≡◌, ℕ, ◌+◌, ◌<◌, ◌≤◌, List, [], length, Some, Ok, IfOk, IfErr, MatchOption, slice_index_or};
+ghost use Rattle.std.specs.Prelude.{◌≡◌, ℕ, ◌+◌, ◌<◌, ◌≤◌, List, [], length, Some, Ok, IfSome, IfOk, IfErr, MatchOption, slice_index_or};
 ghost use Rattle.boxes.specs.Cuts.{Path};
 ghost use Rattle.boxes.specs.GridBoxes.{box_of};
 ghost use Rattle.boxes.specs.KeyRanges.{lowest_of, highest_of};
@@ -23,7 +23,8 @@ use stores::PageStore;
 
 // Writes the bytes into the buffer from `start` on, and answers where they end; nothing where there is no room for them.
 fn put(buffer: &mut [u8], start: usize, bytes: &[u8]) -> Option<usize>
-    ensures { MatchOption result (length buffer.old < start + length bytes.now) (λ end. Written start bytes.now end buffer.old buffer.new) }
+    ensures written { MatchOption result (length buffer.old < start + length bytes.now) (λ end. Written start bytes.now end buffer.old buffer.new) }
+    ensures within { IfSome result (λ end. end ≤ length buffer.new) }
 {
     let end = start.saturating_add(bytes.len());
     if end > buffer.len() {
@@ -65,7 +66,8 @@ impl<'a, K: Kind> Walk<'a, K> {
 
     // Passes the records of a bucket page that lie in the box and in the range.
     fn pass_records(&self, page: &[u8; 512], buffer: &mut [u8], so_far: Passed) -> Passed
-        ensures { (b : Path) (rs : List (List ℕ)) → BucketBytes (K.Kind.meaning self.now.kind.now) b rs page.now → PassedBucket (wanted (K.Kind.meaning self.now.kind.now) (lowest_of self.now.range) (highest_of self.now.range) (box_of self.now.inner)) rs so_far buffer.old result buffer.new }
+        ensures passed { (b : Path) (rs : List (List ℕ)) → BucketBytes (K.Kind.meaning self.now.kind.now) b rs page.now → PassedBucket (wanted (K.Kind.meaning self.now.kind.now) (lowest_of self.now.range) (highest_of self.now.range) (box_of self.now.inner)) rs so_far buffer.old result buffer.new }
+        ensures within { so_far.end ≤ length buffer.old → result.end ≤ length buffer.new }
     {
         let _ = bucket_laws_stand();
         let mut number = so_far.number;
@@ -93,6 +95,7 @@ impl<'a, K: Kind> Walk<'a, K> {
         requires stored { leaf.now.page < length (S.PageStore.pages store.old) }
         ensures kept { S.PageStore.pages store.new ≡ S.PageStore.pages store.old }
         ensures passed { (rs : List (List ℕ)) → BucketBytes (K.Kind.meaning self.now.kind.now) (box_of leaf.now.inner) rs (slice_index_or (S.PageStore.pages store.old) leaf.now.page []) → (p : Passed) × (result ≡ Ok p) × PassedBucket (wanted (K.Kind.meaning self.now.kind.now) (lowest_of self.now.range) (highest_of self.now.range) (box_of self.now.inner)) rs so_far buffer.old p buffer.new }
+        ensures within { so_far.end ≤ length buffer.old → IfOk result (λ p. p.end ≤ length buffer.new) }
     {
         let mut page = [0; 512];
         load_bucket(self.kind, store, leaf, &mut page)?;
@@ -110,6 +113,7 @@ impl<'a, K: Kind> Walk<'a, K> {
         requires { Under (length (S.PageStore.pages store.old)) directory.now self.now.inner }
         ensures kept { S.PageStore.pages store.new ≡ S.PageStore.pages store.old }
         ensures passed { PassesUnder (K.Kind.meaning self.now.kind.now) (S.PageStore.pages store.old) (lowest_of self.now.range) (highest_of self.now.range) (box_of directory.now.inner) (image_of directory.now.image) (box_of self.now.inner) so_far buffer.old result buffer.new }
+        ensures within { so_far.end ≤ length buffer.old → IfOk result (λ p. p.end ≤ length buffer.new) }
     {
         if !self.range.meets(&self.inner) {
             return Ok(so_far);
@@ -136,6 +140,7 @@ impl<'a, K: Kind> Walk<'a, K> {
         requires { self.now.memory.now.pages ≡ length (S.PageStore.pages store.old) }
         ensures kept { S.PageStore.pages store.new ≡ S.PageStore.pages store.old }
         ensures passed { Passes (K.Kind.meaning self.now.kind.now) (S.PageStore.pages store.old) self.now.memory.now (lowest_of self.now.range) (highest_of self.now.range) (box_of self.now.inner) so_far buffer.old result buffer.new }
+        ensures within { so_far.end ≤ length buffer.old → IfOk result (λ p. p.end ≤ length buffer.new) }
     {
         let _ = laws_stand();
         let _ = bucket_laws_stand();

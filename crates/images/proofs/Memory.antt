@@ -1,7 +1,7 @@
 -- The image that a directory image in memory holds, by its arrays.
-use Rattle.std.proofs.Common.{◌≡◌, ℕ, zero, suc, ◌+◌, ◌-◌, ◌<◌, ◌≤◌, List, [], ◌∷◌, length, get_or, take, drop, sym, refl, ap, ◌∙◌, arith, length-drop}
+use Rattle.std.proofs.Common.{◌≡◌, ℕ, zero, suc, ◌+◌, ◌-◌, ◌*◌, ◌<◌, ◌≤◌, List, [], ◌∷◌, length, get_or, take, drop, sym, refl, ap, ◌∙◌, arith, length-drop}
 use Rattle.std.specs.List.{sum}
-use Rattle.std.proofs.lemmas.List.{drop-drop, drop-take, take-take, length-take-le, get_or-take}
+use Rattle.std.proofs.lemmas.List.{drop_more, drop_all, drop-drop, drop-take, take-take, length-take-le, get_or-take}
 use Rattle.images.specs.declared.held_image.HeldImage.{HeldImage}
 use Rattle.images.specs.Directory.{intervals}
 use Rattle.images.specs.Memory.{scales_in}
@@ -73,6 +73,13 @@ module _ {E C : ℕ} (d : HeldImage E C) where
   pub count_most : (i : ℕ) → i < d.keys → get_or d.counts i 0 ≤ E
   count_most i l = omega (arith, first_next i l, first_most (i + 1))
 
+  -- the ends of a key lie within the array
+  pub at_key : (i key from : ℕ) → key < d.keys → i ≤ key → key ≤ i → from ≡ first_end i → (from ≡ first_end key) × (from + get_or d.counts key 0 ≤ E)
+  at_key i key from l a b e =
+      let same : i ≡ key = omega arith in
+      let f : from ≡ first_end key = e ∙ ap first_end same in
+      (f, omega (arith, f, first_next key l, first_most (key + 1)))
+
   -- the counts before key i
   pub first_is : (i : ℕ) → i < d.keys → sum (take i d.counts) ≡ first_end i
   first_is i l = sum_total (take i d.counts) ∙ ap total (sym (take-take i d.keys d.counts (omega arith)))
@@ -80,6 +87,15 @@ module _ {E C : ℕ} (d : HeldImage E C) where
   -- the product of the intervals of the keys from i on
   abbrev pub product_from : ℕ → ℕ
   product_from i = intervals (drop i (scales_in d))
+
+  pub product_more : (i : ℕ) → i < d.keys → product_from i ≡ (get_or d.counts i 0 + 1) * product_from (i + 1)
+  product_more i l =
+      let more : suc (get_or d.counts i 0) ≡ get_or d.counts i 0 + 1 = omega arith in
+      ap intervals (drop_more (scales_in d) i [] (omega (arith, keys_in)))
+      ∙ ap (λ n. suc n * product_from (i + 1)) (scale_long i l) ∙ ap (λ n. n * product_from (i + 1)) more
+
+  pub product_all : (i : ℕ) → d.keys ≤ i → product_from i ≡ 1
+  product_all i l = ap intervals (drop_all i (scales_in d) (omega (arith, keys_in)))
 
   pub product_is : (i : ℕ) → i ≤ d.keys → product (take (d.keys - i) (drop i d.counts)) ≡ product_from i
   product_is i l =
@@ -94,3 +110,17 @@ module _ {E C : ℕ} (d : HeldImage E C) where
 
   pub product_small : (i : ℕ) → product_from i ≤ C
   product_small i = omega (arith, drop_most (scales_in d) i, d.small)
+
+  -- one key more in the product
+  pub turned : (i first product : ℕ) → i < d.keys → product * product_from i ≡ product_from first
+      → ((product * (get_or d.counts i 0 + 1)) * product_from (i + 1) ≡ product_from first) × (product * (get_or d.counts i 0 + 1) ≤ C)
+  turned i first product l e =
+      let A = get_or d.counts i 0 + 1 in
+      let B = product_from (i + 1) in
+      let swap : (product * A) * B ≡ product * (A * B) = omega arith in
+      let q : (product * A) * B ≡ product_from first = swap ∙ ap (λ n. product * n) (sym (product_more i l)) ∙ e in
+      (q, less (product * A) B (product_pos (i + 1)) (omega (arith, q, product_small first)))
+    where
+      less : (x y : ℕ) → 0 < y → x * y ≤ C → x ≤ C
+      less x zero p h = absurd (omega arith)
+      less x (suc y) p h = omega arith

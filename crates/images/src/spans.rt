@@ -21,8 +21,9 @@ pub(crate) fn span_of(space: &Space, level: usize, key: usize) -> u64
 fn halvings_of(halvings: &[u8], key: usize) -> usize
     ensures { result ≡ count_by (λ halved. key == halved) halvings.now }
 {
+    // A sum and no `filter(..).count()`: that would branch at each halving, and the check of an image asks this three times for each cell and key.
     halvings
         .iter()
-        .filter(|halved| key == **halved as usize)
-        .count()
+        .map(|halved| usize::from(key == *halved as usize))
+        .sum()
 }

@@ -1,5 +1,7 @@
 use Rattle.std.proofs.Common.{◌≡◌, ℕ, ◌<◌, length, get_or, sym, refl, ap, ◌∙◌, arith, rules}
+use Rattle.std.proofs.lemmas.List.{length-take-le}
 use Rattle.std.proofs.lemmas.List.Sorted.{IsPermutation-trans}
+use Rattle.std.proofs.lemmas.Slice.{drop-append-drop}
 use Rattle.boxes.specs.declared.figures.Figures.{Figures}
 use Rattle.boxes.specs.Directories.{ends}
 use Rattle.boxes.specs.Spaces.{widths_of, order_of}
@@ -7,8 +9,8 @@ use Rattle.boxes.proofs.OfFigures.{directories_shuffled, root_countable, root_bo
 use Rattle.boxes.proofs.OfRoots.{all_directories}
 use Rattle.boxes.proofs.measuring.measure.Goals as goal
 
-pub returns-then-room-found : goal.returns-then-room-found
-returns-then-room-found c =
+pub returns-then-room-found-clause-measured : goal.returns-then-room-found-clause-measured
+returns-then-room-found-clause-measured c =
     let s = c.args.space.now in
     let ps = c.args.points.now in
     let total = directory_total s c.args.capacity ps c.whole.result c.whole.ensures c.survey-found.result c.survey-found.ensures.found in (
@@ -25,7 +27,8 @@ root_counts-counts-requires c =
     let ps = c.args.points.now in
     let qs = c.survey-found.new.points in
     let total = directory_total s c.args.capacity ps c.whole.result c.whole.ensures c.survey-found.result c.survey-found.ensures.found in
-    omega (arith, total, c.if-room-found.false, ap length (directories_shuffled s c.args.capacity ps qs c.survey-found.ensures.same))
+    let n = c.survey-found.result.directory_boxes in
+    omega (arith, total, c.if-room-found.false, length-take-le n c.args.room.now (omega (arith, c.if-room-found.false)), ap length (directories_shuffled s c.args.capacity ps qs c.survey-found.ensures.same))
 
 pub of-root-requires : goal.of-root-requires
 of-root-requires c =
@@ -36,8 +39,8 @@ pub overflow_add-result-2 : goal.overflow_add-result-2
 overflow_add-result-2 c =
     omega (arith, totals_fit c.args.space.now c.args.capacity c.args.points.now c.whole.result c.whole.ensures c.survey-found.result c.survey-found.ensures.found)
 
-pub returns : goal.returns
-returns c =
+pub returns-clause-measured : goal.returns-clause-measured
+returns-clause-measured c =
     let s = c.args.space.now in
     let n = c.args.capacity in
     let ps = c.args.points.now in
@@ -59,3 +62,9 @@ returns c =
       c.if-room-found.false,
       (all, figures_shuffled s n ps c.root_counts-counts.new.points all),
     )
+
+pub returns-clause-rest : goal.returns-clause-rest
+returns-clause-rest c =
+    let n = c.survey-found.result.directory_boxes in
+    let long : length c.root_counts-counts.new.room ≡ n = c.root_counts-counts.auto.room ∙ length-take-le n c.args.room.now (omega (arith, c.if-room-found.false)) in
+    drop-append-drop n c.args.room.now c.root_counts-counts.new.room n (omega arith) long

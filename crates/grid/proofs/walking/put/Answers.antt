@@ -4,8 +4,8 @@ use borrow.Rule.Slice.PartMut.{put_mid}
 use Rattle.grid.proofs.OfLists.{written_part}
 use Rattle.grid.proofs.walking.put.Goals as goal
 
-pub returns : goal.returns
-returns c =
+pub returns-clause-written : goal.returns-clause-written
+returns-clause-written c =
     let start = c.args.start in
     let old = c.args.buffer.now in
     let bytes = c.args.bytes.now in

@@ -8,4 +8,4 @@ pub returns-clause-passed : goal.returns-clause-passed
 returns-clause-passed g c rs k =
     let m = g.K.Kind.meaning c.args.self.now.kind.now in
     let b = box_of c.args.leaf.now.inner in
-    (c.pass_records.result, refl, c.pass_records.ensures b rs (subst (λ (bytes : List ℕ). BucketBytes m b rs bytes) (sym c.in_ok-load_bucket.ensures.loaded.0) k))
+    (c.pass_records.result, refl, c.pass_records.ensures.passed b rs (subst (λ (bytes : List ℕ). BucketBytes m b rs bytes) (sym c.in_ok-load_bucket.ensures.loaded.0) k))

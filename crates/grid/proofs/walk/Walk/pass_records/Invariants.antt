@@ -1,5 +1,5 @@
 -- Those passed stand below the place.
-use Rattle.std.proofs.Common.{◌≡◌, ℕ, List, length, take}
+use Rattle.std.proofs.Common.{◌≡◌, ℕ, ◌≤◌, List, length, take}
 use Rattle.boxes.specs.Cuts.{Path}
 use Rattle.boxes.specs.GridBoxes.{box_of}
 use Rattle.boxes.specs.KeyRanges.{lowest_of, highest_of}
@@ -11,5 +11,6 @@ abbrev pub invariant-loop-place : goal.invariant-loop-place
 invariant-loop-place g l =
     let m = g.K.Kind.meaning l.self.kind.now in
     (length l.buffer ≡ length l.initial.buffer)
+    × (l.fn.so_far.end ≤ length l.initial.buffer → l.end ≤ length l.buffer)
     × ((b : Path) (rs : List (List ℕ)) → BucketBytes m b rs l.page
     → PassedBucket (wanted m (lowest_of l.self.range) (highest_of l.self.range) (box_of l.self.inner)) (take l.place rs) l.fn.so_far l.initial.buffer (record { number = l.number; end = l.end }) l.buffer)
