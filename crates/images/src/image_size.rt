@@ -23,10 +23,8 @@ impl ImageSize {
         if boundaries > 250 {
             return None;
         }
-        Some(ImageSize {
-            boundaries,
-            cells: product_of(counts),
-        })
+        let cells = product_of(counts);
+        Some(ImageSize { boundaries, cells })
     }
 
     // Has an image with room for so many ends and cells room for this?

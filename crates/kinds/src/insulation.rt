@@ -1,5 +1,5 @@
 // Kind I, insulation: the resistance of an array on a day.
-ghost use Rattle.std.specs.Prelude.{◌≡◌, true, ◌||◌, if◌then◌else◌, refl};
+ghost use Rattle.std.specs.Prelude.{◌≡◌, true, ◌||◌, refl};
 ghost use Rattle.kinds.specs.Kinds.{is_over_range, is_measured, kilohms as kilohms_of, insulation};
 ghost use Rattle.std.proofs.Common.{arith};
 ghost use Rattle.kinds.specs.Fields.{byte, be2};
@@ -40,7 +40,8 @@ impl RecordFormat for InsulationFormat {
     fn accepts(bytes: &[u8]) -> bool {
         has_mark(bytes, [0x49, 0x52])
             && (1..=40).contains(&byte(bytes, 4))
-            && kilohms(be16(bytes, 5), byte(bytes, 7)).is_some()
+            && (is_over_range(be16(bytes, 5), byte(bytes, 7))
+                || is_measured(be16(bytes, 5), byte(bytes, 7)))
             && byte(bytes, 8) <= 2
             && be24(bytes, 9) == 0
     }
@@ -49,7 +50,7 @@ impl RecordFormat for InsulationFormat {
         Keys::new(&[
             be16(bytes, 2) as u32,
             byte(bytes, 4) as u32,
-            kilohms(be16(bytes, 5), byte(bytes, 7))?,
+            kilohms(be16(bytes, 5), byte(bytes, 7)),
         ])
     }
 }
@@ -66,15 +67,14 @@ fn is_measured(digits: u16, power: u8) -> bool
     power <= 3 && digits <= 999 && (power == 0 || 100 <= digits)
 }
 
-// The kilohms of digits and power, if a record may have these.
-fn kilohms(digits: u16, power: u8) -> Option<u32>
-    ensures { result ≡ (if is_over_range digits power || is_measured digits power then Some (kilohms_of digits power) else None) }
+// The kilohms of digits and power that a record may have. `accepts` tells which these are; to test it here again would make reading a page of records half as dear again.
+fn kilohms(digits: u16, power: u8) -> u32
+    ensures { (is_over_range digits power || is_measured digits power) ≡ true → result ≡ kilohms_of digits power }
 {
     if is_over_range(digits, power) {
-        Some(1048575)
-    } else if is_measured(digits, power) {
-        Some(digits as u32 * 10u32.pow(power as u32))
+        1048575
     } else {
-        None
+        // Only a power up to 3 is one of a record; the product of any other is to fit as well.
+        digits as u32 * 10u32.pow(power.min(3) as u32)
     }
 }

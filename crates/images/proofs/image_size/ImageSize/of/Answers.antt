@@ -17,10 +17,10 @@ total_of-boundaries-requires c =
 pub returns-then-boundaries-gt250 : goal.returns-then-boundaries-gt250
 returns-then-boundaries-gt250 c = λ w. omega (arith, w.1, sum_total c.args.counts.now)
 
-pub product_of-requires : goal.product_of-requires
-product_of-requires c = product_most c.args.counts.now c.if-counts-gt4.false (omega (arith, sum_total c.args.counts.now))
+pub product_of-cells-requires : goal.product_of-cells-requires
+product_of-cells-requires c = product_most c.args.counts.now c.if-counts-gt4.false (omega (arith, sum_total c.args.counts.now))
 
 pub returns : goal.returns
 returns c =
     let e = c.total_of-boundaries.ensures ∙ sum_total c.args.counts.now in
-    (c.if-counts-gt4.false, omega arith, e, c.product_of.ensures)
+    (c.if-counts-gt4.false, omega arith, e, c.product_of-cells.ensures)
